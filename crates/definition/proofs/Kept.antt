@@ -1,0 +1,114 @@
+-- Laws of the form in State.antt: the rows of a beginning of the lines are a beginning of the rows, and B + 1 kept lines are enough.
+use Prim.Native.Nat.{ℕ, _+_, _-_, _≤_, _<_}
+use mathlib.Core.Path.{_≡_, refl, sym, _∙_, ap, ap₂}
+use mathlib.Core.Bool.{Bool, true, false, cond, not, _&&_, _||_}
+use mathlib.Core.List.{List, [], _∷_, _++_, map, append-assoc}
+use native.Mathlib.Decide.{decLe}
+use native.Mathlib.Omega.{arith}
+use lib.Dec.{ltb}
+use lib.ListN.{length, drop, length-drop}
+use lib.Seq.{drop-drop, drop-length}
+use borrow.Author.Tests.{ltb-false, lt-ltb, le-ltb}
+use Rattle.definition.specs.declared.Going.{Going}
+use Rattle.definition.specs.declared.Going.the-variants.{On, LimitMet, NonmatchMet}
+use Rattle.definition.specs.declared.Settings.{Settings}
+use Rattle.definition.specs.Bounds.{contextual}
+use Rattle.definition.specs.Definition.{Fate, match, after, other, norow, lastOf}
+use Rattle.definition.specs.Rows.{Line, Row, row, break, beforeKind, matchKind}
+use Rattle.definition.specs.State.{State, nextLine, breaks, rowsFor, sinceNext, stateNext, fateOf, stepRows, stepState, state, rows, keptLines, trim}
+use Rattle.definition.proofs.Lists.{lastOf-none, lastOf-trim-append, length-lastOf, lastOf-lastOf}
+
+-- # A beginning of the lines
+
+pub state-append : (c : Settings) (answers : ℕ → Bool) (s : State) (xs ys : List (List ℕ))
+    → state c answers s (xs ++ ys) ≡ state c answers (state c answers s xs) ys
+unfolding state
+state-append c answers s [] ys = refl
+state-append c answers s (x ∷ xs) ys = state-append c answers _ xs ys
+
+pub rows-append : (c : Settings) (answers : ℕ → Bool) (s : State) (xs ys : List (List ℕ))
+    → rows c answers s (xs ++ ys) ≡ rows c answers s xs ++ rows c answers (state c answers s xs) ys
+unfolding rows state
+rows-append c answers s [] ys = refl
+rows-append c answers s (x ∷ xs) ys =
+    let next = stepState (s .going) c s (length x) (answers (s .lines + 1)) in
+    rw (rows-append c answers next xs ys) (sym (append-assoc (stepRows (s .going) c s (length x) (answers (s .lines + 1))) (rows c answers next xs) _))
+
+-- # B + 1 kept lines are enough
+
+before≤kept : (c : Settings) → c .before ≤ keptLines c
+unfolding keptLines contextual
+before≤kept c = go (ltb 0 (c .before)) refl
+  where
+    go : (b : Bool) → ltb 0 (c .before) ≡ b → c .before ≤ cond (ltb 0 (c .before) || ltb 0 (c .after)) (c .before + 1) 0
+    go true e = rw e (omega arith)
+    go false e = omega (arith, ltb-false 0 (c .before) e)
+
+-- one line more than B tells whether there are more than B
+more-kept : (n : ℕ) (xs : List Line) → ltb n (length (lastOf (n + 1) xs)) ≡ ltb n (length xs)
+more-kept n xs = elim (decLe (n + 1) (length xs)) [
+    yes h ↦ lt-ltb n (length (lastOf (n + 1) xs)) (omega (arith, length-lastOf (n + 1) xs)) ∙ sym (lt-ltb n (length xs) (omega arith))
+  | no h ↦ le-ltb n (length (lastOf (n + 1) xs)) (omega (arith, length-lastOf (n + 1) xs)) ∙ sym (le-ltb n (length xs) (omega arith)) ]
+
+trim-breaks : (c : Settings) (s : State) → breaks c (trim c s) ≡ breaks c s
+unfolding breaks trim keptLines
+trim-breaks c s = go (contextual c) refl
+  where
+    go : (b : Bool) → contextual c ≡ b
+        → cond (contextual c && s .given && ltb (c .before) (length (lastOf (cond (contextual c) (c .before + 1) 0) (s .since)))) (break ∷ []) []
+            ≡ cond (contextual c && s .given && ltb (c .before) (length (s .since))) (break ∷ []) []
+    go true e = rw (e, more-kept (c .before) (s .since))
+    go false e = rw e
+
+trim-rowsFor : (f : Fate) (c : Settings) (s : State) (len : ℕ) → rowsFor f c (trim c s) (nextLine (trim c s) len) ≡ rowsFor f c s (nextLine s len)
+unfolding nextLine trim
+trim-rowsFor match c s len = rw (trim-breaks c s, lastOf-lastOf (c .before) (keptLines c) (s .since) (before≤kept c))
+trim-rowsFor after c s len = refl
+trim-rowsFor other c s len = refl
+trim-rowsFor norow c s len = refl
+
+-- rows and state of one more line are those of the trimmed state
+pub trim-stepRows : (g : Going) (c : Settings) (s : State) (len : ℕ) (answer : Bool) → stepRows g c (trim c s) len answer ≡ stepRows g c s len answer
+unfolding fateOf trim
+trim-stepRows On c s len answer = trim-rowsFor (fateOf c s answer) c s len
+trim-stepRows LimitMet c s len answer = refl
+trim-stepRows NonmatchMet c s len answer = refl
+
+trim-stateNext : (f : Fate) (c : Settings) (s : State) (len : ℕ) → trim c (stateNext f c (trim c s) len) ≡ trim c (stateNext f c s len)
+unfolding stateNext trim nextLine
+trim-stateNext match c s len = refl
+trim-stateNext after c s len = refl
+trim-stateNext other c s len = refl
+trim-stateNext norow c s len = rw (lastOf-trim-append (keptLines c) (s .since) (nextLine s len ∷ []))
+
+trim-trim : (c : Settings) (s : State) → trim c (trim c s) ≡ trim c s
+unfolding trim
+trim-trim c s = rw (lastOf-lastOf (keptLines c) (keptLines c) (s .since) (omega arith))
+
+pub trim-stepState : (g : Going) (c : Settings) (s : State) (len : ℕ) (answer : Bool) → trim c (stepState g c (trim c s) len answer) ≡ trim c (stepState g c s len answer)
+unfolding fateOf trim
+trim-stepState On c s len answer = trim-stateNext (fateOf c s answer) c s len
+trim-stepState LimitMet c s len answer = trim-trim c s
+trim-stepState NonmatchMet c s len answer = trim-trim c s
+
+-- the same over all lines still to come
+pub trim-state : (c : Settings) (answers : ℕ → Bool) (s : State) (ls : List (List ℕ)) → trim c (state c answers (trim c s) ls) ≡ trim c (state c answers s ls)
+unfolding state trim
+trim-state c answers s [] = trim-trim c s
+trim-state c answers s (l ∷ ls) =
+    let len = length l in
+    let answer = answers (s .lines + 1) in
+    sym (trim-state c answers (stepState (s .going) c (trim c s) len answer) ls)
+    ∙ ap (λ (t : State). trim c (state c answers t ls)) (trim-stepState (s .going) c s len answer)
+    ∙ trim-state c answers (stepState (s .going) c s len answer) ls
+
+pub trim-rows : (c : Settings) (answers : ℕ → Bool) (s : State) (ls : List (List ℕ)) → rows c answers (trim c s) ls ≡ rows c answers s ls
+unfolding rows trim
+trim-rows c answers s [] = refl
+trim-rows c answers s (l ∷ ls) =
+    let len = length l in
+    let answer = answers (s .lines + 1) in
+    ap₂ (λ (xs ys : List Row). xs ++ ys) (trim-stepRows (s .going) c s len answer)
+    (sym (trim-rows c answers (stepState (s .going) c (trim c s) len answer) ls)
+    ∙ ap (λ (t : State). rows c answers t ls) (trim-stepState (s .going) c s len answer)
+    ∙ trim-rows c answers (stepState (s .going) c s len answer) ls)

@@ -1,0 +1,55 @@
+-- Laws of lists that the definition leans on and the library lacks: the last n of a list.
+use Prim.Native.Nat.{ℕ, _+_, _-_, _≤_}
+use mathlib.Core.Path.{_≡_, refl, sym, _∙_, ap}
+use mathlib.Core.List.{List, [], _∷_, _++_}
+use native.Mathlib.Decide.{decLe}
+use native.Mathlib.Omega.{arith}
+use lib.ListN.{length, drop, length-append, length-drop}
+use lib.Seq.{drop-append-add, drop-append-le, drop-drop, drop-length}
+use Rattle.definition.specs.Definition.{lastOf}
+
+module _ {ℓ} {A : Type ℓ} where
+  pub lastOf-none : (xs : List A) → lastOf 0 xs ≡ []
+  unfolding lastOf
+  lastOf-none xs =
+      let e : length xs - 0 ≡ length xs = omega arith in
+      rw e (drop-length xs)
+
+  pub lastOf-all : (n : ℕ) (xs : List A) → length xs ≤ n → lastOf n xs ≡ xs
+  unfolding lastOf
+  lastOf-all n xs h =
+      let e : length xs - n ≡ 0 = omega arith in
+      rw e
+
+  pub length-lastOf : (n : ℕ) (xs : List A) → length (lastOf n xs) ≡ length xs - (length xs - n)
+  unfolding lastOf
+  length-lastOf n xs = length-drop (length xs - n) xs
+
+  pub lastOf-append : (n : ℕ) (xs ys : List A) → lastOf n (xs ++ ys) ≡ lastOf (n - length ys) xs ++ lastOf n ys
+  unfolding lastOf
+  lastOf-append n xs ys = elim (decLe n (length ys)) [ yes h ↦ inside h | no h ↦ across (omega arith) ]
+    where
+      inside : n ≤ length ys → drop (length (xs ++ ys) - n) (xs ++ ys) ≡ drop (length xs - (n - length ys)) xs ++ drop (length ys - n) ys
+      inside h =
+          let e : length (xs ++ ys) - n ≡ length xs + (length ys - n) = omega (arith, length-append xs ys) in
+          let k : length xs - (n - length ys) ≡ length xs = omega arith in
+          rw (e, k, drop-length) (drop-append-add xs ys (length ys - n))
+      across : length ys ≤ n → drop (length (xs ++ ys) - n) (xs ++ ys) ≡ drop (length xs - (n - length ys)) xs ++ drop (length ys - n) ys
+      across h =
+          let e : length (xs ++ ys) - n ≡ length xs - (n - length ys) = omega (arith, length-append xs ys) in
+          let k : length ys - n ≡ 0 = omega arith in
+          rw (e, k) (drop-append-le (length xs - (n - length ys)) xs ys (omega arith))
+
+  pub lastOf-lastOf : (m n : ℕ) (xs : List A) → m ≤ n → lastOf m (lastOf n xs) ≡ lastOf m xs
+  unfolding lastOf
+  lastOf-lastOf m n xs h =
+      let k = length xs - n in
+      let e : k + (length (drop k xs) - m) ≡ length xs - m = omega (arith, length-drop k xs) in
+      drop-drop (length (drop k xs) - m) k xs ∙ rw e
+
+  -- what is dropped before an append is dropped after it
+  pub lastOf-trim-append : (n : ℕ) (xs ys : List A) → lastOf n (lastOf n xs ++ ys) ≡ lastOf n (xs ++ ys)
+  lastOf-trim-append n xs ys =
+      lastOf-append n (lastOf n xs) ys
+      ∙ ap (λ zs. zs ++ lastOf n ys) (lastOf-lastOf (n - length ys) n xs (omega arith))
+      ∙ sym (lastOf-append n xs ys)

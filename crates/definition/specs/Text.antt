@@ -1,0 +1,41 @@
+-- 01, "Text", "Lines": what of the input is searched, how it falls into lines, and what the matcher is handed of a line.
+use Prim.Native.Nat.{ℕ}
+use mathlib.Core.Bool.{Bool, cond}
+use mathlib.Core.List.{List, [], _∷_, map}
+use lib.Dec.{eqb}
+use Rattle.definition.specs.declared.Binary.{Binary}
+use Rattle.definition.specs.declared.Binary.the-variants.{Ignore, Quit, Convert}
+use Rattle.definition.specs.declared.Settings.{Settings}
+
+-- the bytes before the first b; all of them where there is none
+unfoldable pub upTo : ℕ → List ℕ → List ℕ
+upTo b [] = []
+upTo b (x ∷ xs) = cond (eqb x b) [] (x ∷ upTo b xs)
+
+-- each b becomes t
+unfoldable pub replaced : ℕ → ℕ → List ℕ → List ℕ
+replaced b t = map (λ x. cond (eqb x b) t x)
+
+-- "under Quit(b), the input up to its first b; under Convert(b), each b becomes the terminator; otherwise the input."
+abbrev pub textUnder : Binary → ℕ → List ℕ → List ℕ
+textUnder Ignore t input = input
+textUnder (Quit b) t input = upTo b input
+textUnder (Convert b) t input = replaced b t input
+
+unfoldable pub text : Settings → List ℕ → List ℕ
+text c input = textUnder (c .binary) (c .terminator) input
+
+-- a byte that is no terminator, before the lines that follow it
+unfoldable pub onto : ℕ → List (List ℕ) → List (List ℕ)
+onto x [] = (x ∷ []) ∷ []
+onto x (l ∷ ls) = (x ∷ l) ∷ ls
+
+-- "each ends after its terminator; bytes left at the end form a last line. An empty text has no lines."
+unfoldable pub lines : ℕ → List ℕ → List (List ℕ)
+lines t [] = []
+lines t (x ∷ xs) = cond (eqb x t) ((x ∷ []) ∷ lines t xs) (onto x (lines t xs))
+
+-- "The matcher is handed the line without its terminator byte; a carriage return is an ordinary byte of the line."
+-- A line has its terminator only at its end.
+unfoldable pub handed : ℕ → List ℕ → List ℕ
+handed t line = upTo t line

@@ -1,0 +1,47 @@
+// The plain data that every layer shares: the settings of a search, how a run stands, and the sizes and bounds of
+// document 01.
+
+// How many matches are wanted at most.
+pub enum Limit {
+    Unlimited,
+    Most(u64),
+}
+
+// What a byte that marks binary data does to the input.
+pub enum Binary {
+    Ignore,
+    Quit(u8),
+    Convert(u8),
+}
+
+// Whether a run goes on, and if not, what stopped it.
+pub enum Going {
+    On,
+    LimitMet,
+    NonmatchMet,
+}
+
+pub struct Settings {
+    // lines of context wanted before and after a match
+    pub before: usize,
+    pub after: usize,
+    // lines are selected where the answer is no
+    pub invert: bool,
+    // lines that no other rule gives a row get one as other context
+    pub passthru: bool,
+    // an unselected line that follows some match stops the run
+    pub stop: bool,
+    pub limit: Limit,
+    pub terminator: u8,
+    pub binary: Binary,
+}
+
+// The largest value each may take. The specs name the same bounds in Bounds.antt, and a proof of any function that
+// tests one against the other fails where the two differ.
+pub const MAX_CONTEXT: usize = 1_000;
+
+pub const MAX_LIMIT: u64 = 4_294_967_295;
+
+pub const MAX_WINDOW: usize = 65_536;
+
+pub const MAX_INPUT: u64 = 4_294_967_295;
