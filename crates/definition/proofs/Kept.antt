@@ -14,8 +14,9 @@ use Rattle.definition.specs.declared.Going.the-variants.{On, LimitMet, N
 use Rattle.definition.specs.declared.Settings.{Settings}
 use Rattle.definition.specs.Bounds.{contextual}
 use Rattle.definition.specs.Definition.{Fate, match, after, other, norow, lastOf}
+use Rattle.definition.specs.Laws.{RowsBegin, KeptEnough, TrimRows, TrimState}
 use Rattle.definition.specs.Rows.{Line, Row, row, break, beforeKind, matchKind}
-use Rattle.definition.specs.State.{State, nextLine, breaks, rowsFor, sinceNext, stateNext, fateOf, stepRows, stepState, state, rows, keptLines, trim}
+use Rattle.definition.specs.State.{State, nextLine, breaks, rowsFor, sinceNext, stateNext, fateOf, stepRows, stepState, state, rows, keptLines, trim, keptRows}
 use Rattle.definition.proofs.Lists.{lastOf-none, lastOf-trim-append, length-lastOf, lastOf-lastOf}
 
 -- # A beginning of the lines
@@ -26,13 +27,39 @@ unfolding state
 state-append c answers s [] ys = refl
 state-append c answers s (x ∷ xs) ys = state-append c answers _ xs ys
 
-pub rows-append : (c : Settings) (answers : ℕ → Bool) (s : State) (xs ys : List (List ℕ))
-    → rows c answers s (xs ++ ys) ≡ rows c answers s xs ++ rows c answers (state c answers s xs) ys
+pub rows-append : RowsBegin
 unfolding rows state
 rows-append c answers s [] ys = refl
 rows-append c answers s (x ∷ xs) ys =
     let next = stepState (s .going) c s (length x) (answers (s .lines + 1)) in
     rw (rows-append c answers next xs ys) (sym (append-assoc (stepRows (s .going) c s (length x) (answers (s .lines + 1))) (rows c answers next xs) _))
+
+-- # A stop
+
+stepState-stopped : (k : Going) (c : Settings) (s : State) (len : ℕ) (answer : Bool) → (k ≡ On → ⊥) → stepState k c s len answer ≡ s
+stepState-stopped On c s len answer h = absurd (h refl)
+stepState-stopped LimitMet c s len answer h = refl
+stepState-stopped NonmatchMet c s len answer h = refl
+
+stepRows-stopped : (k : Going) (c : Settings) (s : State) (len : ℕ) (answer : Bool) → (k ≡ On → ⊥) → stepRows k c s len answer ≡ []
+stepRows-stopped On c s len answer h = absurd (h refl)
+stepRows-stopped LimitMet c s len answer h = refl
+stepRows-stopped NonmatchMet c s len answer h = refl
+
+pub state-stopped : (c : Settings) (answers : ℕ → Bool) (s : State) (ls : List (List ℕ)) → (s .going ≡ On → ⊥) → state c answers s ls ≡ s
+unfolding state
+state-stopped c answers s [] h = refl
+state-stopped c answers s (l ∷ ls) h =
+    ap (λ (x : State). state c answers x ls) (stepState-stopped (s .going) c s (length l) (answers (s .lines + 1)) h) ∙ state-stopped c answers s ls h
+
+pub rows-stopped : (c : Settings) (answers : ℕ → Bool) (s : State) (ls : List (List ℕ)) → (s .going ≡ On → ⊥) → rows c answers s ls ≡ []
+unfolding rows
+rows-stopped c answers s [] h = refl
+rows-stopped c answers s (l ∷ ls) h =
+    ap₂ (λ (xs : List Row) (x : State). xs ++ rows c answers x ls)
+    (stepRows-stopped (s .going) c s (length l) (answers (s .lines + 1)) h)
+    (stepState-stopped (s .going) c s (length l) (answers (s .lines + 1)) h)
+    ∙ rows-stopped c answers s ls h
 
 -- # B + 1 kept lines are enough
 
@@ -47,8 +74,9 @@ before≤kept c = go (ltb 0 (c .before)) refl
 -- one line more than B tells whether there are more than B
 more-kept : (n : ℕ) (xs : List Line) → ltb n (length (lastOf (n + 1) xs)) ≡ ltb n (length xs)
 more-kept n xs = elim (decLe (n + 1) (length xs)) [
-    yes h ↦ lt-ltb n (length (lastOf (n + 1) xs)) (omega (arith, length-lastOf (n + 1) xs)) ∙ sym (lt-ltb n (length xs) (omega arith))
-  | no h ↦ le-ltb n (length (lastOf (n + 1) xs)) (omega (arith, length-lastOf (n + 1) xs)) ∙ sym (le-ltb n (length xs) (omega arith)) ]
+  | yes h ↦ lt-ltb n (length (lastOf (n + 1) xs)) (omega (arith, length-lastOf (n + 1) xs)) ∙ sym (lt-ltb n (length xs) (omega arith))
+  | no h ↦ le-ltb n (length (lastOf (n + 1) xs)) (omega (arith, length-lastOf (n + 1) xs)) ∙ sym (le-ltb n (length xs) (omega arith))
+]
 
 trim-breaks : (c : Settings) (s : State) → breaks c (trim c s) ≡ breaks c s
 unfolding breaks trim keptLines
@@ -56,7 +84,7 @@ trim-breaks c s = go (contextual c) refl
   where
     go : (b : Bool) → contextual c ≡ b
         → cond (contextual c && s .given && ltb (c .before) (length (lastOf (cond (contextual c) (c .before + 1) 0) (s .since)))) (break ∷ []) []
-            ≡ cond (contextual c && s .given && ltb (c .before) (length (s .since))) (break ∷ []) []
+        ≡ cond (contextual c && s .given && ltb (c .before) (length (s .since))) (break ∷ []) []
     go true e = rw (e, more-kept (c .before) (s .since))
     go false e = rw e
 
@@ -92,7 +120,7 @@ trim-stepState LimitMet c s len answer = trim-trim c s
 trim-stepState NonmatchMet c s len answer = trim-trim c s
 
 -- the same over all lines still to come
-pub trim-state : (c : Settings) (answers : ℕ → Bool) (s : State) (ls : List (List ℕ)) → trim c (state c answers (trim c s) ls) ≡ trim c (state c answers s ls)
+pub trim-state : TrimState
 unfolding state trim
 trim-state c answers s [] = trim-trim c s
 trim-state c answers s (l ∷ ls) =
@@ -102,7 +130,7 @@ trim-state c answers s (l ∷ ls) =
     ∙ ap (λ (t : State). trim c (state c answers t ls)) (trim-stepState (s .going) c s len answer)
     ∙ trim-state c answers (stepState (s .going) c s len answer) ls
 
-pub trim-rows : (c : Settings) (answers : ℕ → Bool) (s : State) (ls : List (List ℕ)) → rows c answers (trim c s) ls ≡ rows c answers s ls
+pub trim-rows : TrimRows
 unfolding rows trim
 trim-rows c answers s [] = refl
 trim-rows c answers s (l ∷ ls) =
@@ -110,5 +138,18 @@ trim-rows c answers s (l ∷ ls) =
     let answer = answers (s .lines + 1) in
     ap₂ (λ (xs ys : List Row). xs ++ ys) (trim-stepRows (s .going) c s len answer)
     (sym (trim-rows c answers (stepState (s .going) c (trim c s) len answer) ls)
+    ∙ ap (λ (t : State). rows c answers t ls) (trim-stepState (s .going) c s len answer)
+    ∙ trim-rows c answers (stepState (s .going) c s len answer) ls)
+
+pub kept-enough : KeptEnough
+unfolding keptRows rows
+kept-enough c answers s [] = refl
+kept-enough c answers s (l ∷ ls) =
+    let len = length l in
+    let answer = answers (s .lines + 1) in
+    let kept = stepState (s .going) c (trim c s) len answer in
+    ap₂ (λ (xs ys : List Row). xs ++ ys) (trim-stepRows (s .going) c s len answer)
+    (kept-enough c answers kept ls
+    ∙ sym (trim-rows c answers kept ls)
     ∙ ap (λ (t : State). rows c answers t ls) (trim-stepState (s .going) c s len answer)
     ∙ trim-rows c answers (stepState (s .going) c s len answer) ls)

@@ -34,6 +34,7 @@ module _ {ℓ} {A : Type ℓ} where
           let e : length (xs ++ ys) - n ≡ length xs + (length ys - n) = omega (arith, length-append xs ys) in
           let k : length xs - (n - length ys) ≡ length xs = omega arith in
           rw (e, k, drop-length) (drop-append-add xs ys (length ys - n))
+
       across : length ys ≤ n → drop (length (xs ++ ys) - n) (xs ++ ys) ≡ drop (length xs - (n - length ys)) xs ++ drop (length ys - n) ys
       across h =
           let e : length (xs ++ ys) - n ≡ length xs - (n - length ys) = omega (arith, length-append xs ys) in

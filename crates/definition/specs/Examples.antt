@@ -12,6 +12,8 @@ use Rattle.definition.specs.declared.Limit.the-variants.{Unlimited, Most
 use Rattle.definition.specs.declared.Settings.{Settings}
 use Rattle.definition.specs.Definition.{End, rowsOf, endOf}
 use Rattle.definition.specs.Rows.{Row}
+use Rattle.definition.specs.State.{opened, keptRows}
+use Rattle.definition.specs.Text.{lines, text}
 
 -- the rows and the end record
 pub record Outcome : Type 0 where
@@ -42,6 +44,13 @@ written e = e .outcome
 -- The claim about a table: the definition computes what is written.
 abbrev pub Holds : List Example → Type 0
 Holds table = map computed table ≡ map written table
+
+-- And so does the walk that forgets all lines but the kept ones.
+abbrev pub kept : Example → List Row
+kept e = keptRows (e .settings) (answersAt (e .hits)) (opened (e .settings)) (lines (e .settings .terminator) (text (e .settings) (e .input)))
+
+abbrev pub HoldsKept : List Example → Type 0
+HoldsKept table = map kept table ≡ map (λ e. e .outcome .rows) table
 
 -- newline for terminator; invert, passthru and stop in this order
 abbrev pub settings : ℕ → ℕ → Bool → Bool → Bool → Limit → Binary → Settings

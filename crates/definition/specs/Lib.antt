@@ -4,4 +4,5 @@ pub mod Text
 pub mod Rows
 pub mod Definition
 pub mod State
+pub mod Laws
 pub mod Examples

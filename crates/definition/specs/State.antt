@@ -115,3 +115,10 @@ trim c s =
       since = lastOf (keptLines c) (s .since);
       going = s .going;
     }
+
+-- the rows of a walk that before each line forgets all lines but the kept ones
+unfoldable pub keptRows : Settings → (ℕ → Bool) → State → List (List ℕ) → List Row
+keptRows c answers s [] = []
+keptRows c answers s (l ∷ ls) =
+    stepRows (s .going) c (trim c s) (length l) (answers (s .lines + 1))
+    ++ keptRows c answers (stepState (s .going) c (trim c s) (length l) (answers (s .lines + 1))) ls
