@@ -80,7 +80,8 @@ fn answers(field: &str, lines: Vec<Vec<u8>>) -> Result<Answers, String> {
     if said.len() != lines.len() {
         return Err(format!("{} answers for {} lines", said.len(), lines.len()));
     }
-    let said: Result<Vec<bool>, String> = said.split("").filter(|s| !s.is_empty()).map(flag).collect();
+    let said: Result<Vec<bool>, String> =
+        (0..said.len()).map(|i| flag(said.get(i..=i).unwrap_or(said))).collect();
     Ok(Answers::Listed(lines.into_iter().zip(said?).collect()))
 }
 

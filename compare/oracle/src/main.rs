@@ -38,7 +38,7 @@ fn run() -> Result<(), String> {
     for (at, line) in io::stdin().lock().lines().enumerate() {
         let line = line.map_err(|e| e.to_string())?;
         let case = case::parse(&line).map_err(|e| format!("case {}: {e}", at + 1))?;
-        let rows = search::search(&case);
+        let rows = search::search(case);
         begun += rows.begun;
         writeln!(out, "{}", rows.text).map_err(|e| e.to_string())?;
     }

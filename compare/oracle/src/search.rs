@@ -120,12 +120,11 @@ impl Sink for Rows {
     }
 }
 
-pub fn search(case: &Case) -> Rows {
+pub fn search(mut case: Case) -> Rows {
     let matcher = FromCase { answers: &case.answers, asked: Cell::new(0) };
-    let reader = Pieces { rest: &case.input, cuts: case.cuts.clone(), at: 0 };
+    let reader = Pieces { rest: &case.input, cuts: case.cuts, at: 0 };
     let mut rows = Rows::default();
-    let mut searcher = case.searcher.clone();
-    if let Err(error) = searcher.search_reader(&matcher, reader, &mut rows) {
+    if let Err(error) = case.searcher.search_reader(&matcher, reader, &mut rows) {
         rows.last(format_args!("error {error}"));
     }
     rows

@@ -1,16 +1,24 @@
 -- Facts about the terminator, proved once over that byte: how a text falls into lines, and what of a line is handed to the matcher.
 use Prim.Native.Nat.{ℕ, suc, _+_, _≤_, _<_}
-use mathlib.Core.Path.{_≡_, refl, sym, _∙_, ap}
+use mathlib.Core.Path.{_≡_, refl, sym, _∙_, ap, ap₂}
 use mathlib.Core.Bool.{Bool, true, false, cond}
 use mathlib.Core.List.{List, [], _∷_, _++_, flatten}
 use native.Mathlib.Omega.{arith}
-use native.Mathlib.Numerals.{add-one}
 use lib.Dec.{eqb}
 use lib.ListN.{length, take, drop}
 use borrow.Author.Tests.{eqb-true}
 use Rattle.definition.specs.Definition.{firstPlace}
-use Rattle.definition.specs.Laws.{LinesWhole, LinesFirst, LinesRest, HandedWhole}
-use Rattle.definition.specs.Text.{upTo, onto, lines, handed}
+use Rattle.definition.specs.Laws.{ConvertSame, LinesWhole, LinesFirst, LinesRest, HandedWhole}
+use Rattle.definition.specs.Text.{upTo, replaced, onto, lines, handed}
+
+pub convert-same : ConvertSame
+unfolding replaced
+convert-same t [] = refl
+convert-same t (x ∷ xs) = ap₂ {C = List ℕ} (λ y ys. y ∷ ys) (go (eqb x t) refl) (convert-same t xs)
+  where
+    go : (b : Bool) → eqb x t ≡ b → cond b t x ≡ x
+    go true e = sym (eqb-true x t e)
+    go false e = refl
 
 flatten-onto : (x : ℕ) (ls : List (List ℕ)) → flatten (onto x ls) ≡ x ∷ flatten ls
 unfolding flatten onto

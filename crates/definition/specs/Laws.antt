@@ -7,7 +7,7 @@ use lib.ListN.{length, take, drop}
 use Rattle.definition.specs.declared.Settings.{Settings}
 use Rattle.definition.specs.Definition.{End, endRecord, firstPlace, goingNext, rowsOf, endOf}
 use Rattle.definition.specs.State.{State, opened, state, rows, trim, keptRows}
-use Rattle.definition.specs.Text.{handed, lines, text}
+use Rattle.definition.specs.Text.{handed, lines, replaced, text}
 
 -- the state after all lines of an input
 unfoldable pub finalState : Settings → List ℕ → (ℕ → Bool) → State
@@ -53,6 +53,10 @@ abbrev pub EmptyText : Type 0
 EmptyText =
     (c : Settings) (input : List ℕ) (answers : ℕ → Bool) → text c input ≡ []
     → (rowsOf c input answers ≡ []) × (endOf c input answers ≡ endRecord c input 0 0 0 (goingNext c false 0 0))
+
+-- "b equal to the terminator: Convert does nothing" (Terminator.convert-same).
+abbrev pub ConvertSame : Type 0
+ConvertSame = (t : ℕ) (bytes : List ℕ) → replaced t t bytes ≡ bytes
 
 -- The lines are the text and nothing else (Terminator.lines-whole).
 abbrev pub LinesWhole : Type 0
