@@ -2,11 +2,11 @@
 use mathlib.Core.Path.{_≡_, refl}
 use mathlib.Core.Bool.{xor}
 use Rattle.definition.specs.Bounds.{contextual}
-use Rattle.definition.specs.Definition.{selected, fate, hasRow, rowless, lastOf, lastNumber, between, breakBefore, give, goingNext, start, walk, linesOf, gone, firstPlace, endRecord, bytesOf, rowsOf, endOf}
+use Rattle.definition.specs.Definition.{selected, fate, hasRow, rowless, lastOf, lastNumber, between, breakBefore, give, goingNext, start, walk, linesOf, gone, endRecord, bytesOf, rowsOf, endOf}
 use Rattle.definition.specs.Examples.{Holds, HoldsKept, P, Further}
 use Rattle.definition.specs.Rows.{placed}
 use Rattle.definition.specs.State.{opened, nextLine, breaks, stateNext, fateOf, keptLines, trim, keptRows}
-use Rattle.definition.specs.Text.{upTo, replaced, text, onto, lines}
+use Rattle.definition.specs.Text.{upTo, firstPlace, replaced, text, onto, lines}
 
 pub examples-hold : Holds P × Holds Further
 unfolding xor contextual selected fate hasRow rowless lastOf lastNumber between breakBefore give goingNext start walk linesOf gone firstPlace endRecord bytesOf rowsOf endOf placed upTo replaced text onto lines

@@ -7,9 +7,8 @@ use native.Mathlib.Omega.{arith}
 use lib.Dec.{eqb}
 use lib.ListN.{length, take, drop}
 use borrow.Author.Tests.{eqb-true}
-use Rattle.definition.specs.Definition.{firstPlace}
 use Rattle.definition.specs.Laws.{ConvertSame, LinesWhole, LinesFirst, LinesRest, HandedWhole}
-use Rattle.definition.specs.Text.{upTo, replaced, onto, lines, handed}
+use Rattle.definition.specs.Text.{upTo, firstPlace, replaced, onto, lines, handed}
 
 pub convert-same : ConvertSame
 unfolding replaced

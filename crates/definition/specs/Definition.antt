@@ -7,14 +7,17 @@ use lib.ListN.{length, drop}
 use lib.Dec.{ltb, leb, eqb}
 use Rattle.definition.specs.declared.Binary.{Binary}
 use Rattle.definition.specs.declared.Binary.the-variants.{Ignore, Quit, Convert}
+use Rattle.definition.specs.declared.End.{End}
 use Rattle.definition.specs.declared.Going.{Going}
 use Rattle.definition.specs.declared.Going.the-variants.{On, LimitMet, NonmatchMet}
 use Rattle.definition.specs.declared.Limit.{Limit}
 use Rattle.definition.specs.declared.Limit.the-variants.{Unlimited, Most}
+use Rattle.definition.specs.declared.Place.{Place}
+use Rattle.definition.specs.declared.Place.the-variants.{Nowhere, At}
 use Rattle.definition.specs.declared.Settings.{Settings}
 use Rattle.definition.specs.Bounds.{contextual}
 use Rattle.definition.specs.Rows.{Line, Row, row, break, placed, matchKind, beforeKind, afterKind, otherKind}
-use Rattle.definition.specs.Text.{lines, text, upTo}
+use Rattle.definition.specs.Text.{firstPlace, lines, text}
 
 -- # Which lines get which row
 
@@ -150,19 +153,6 @@ gone c input answers = walk c answers (start c) (linesOf c input)
 
 -- # The end record
 
--- "bytes and lines gone through; matches; cause (..); binary offset: .. flag .. and number"
-pub record End : Type 0 where
-  pub bytes : ℕ
-  pub lines : ℕ
-  pub matches : ℕ
-  pub cause : ℕ
-  pub flag : ℕ
-  pub offset : ℕ
-
--- the first place of b, counting from 0; the length where there is none
-unfoldable pub firstPlace : ℕ → List ℕ → ℕ
-firstPlace b input = length (upTo b input)
-
 -- whether the input has a Quit byte
 abbrev pub quitMet : Binary → List ℕ → Bool
 quitMet Ignore input = false
@@ -175,23 +165,18 @@ causeOf On quit = cond quit 1 0
 causeOf LimitMet quit = 2
 causeOf NonmatchMet quit = 3
 
--- where a byte was met that the end record tells of
-pub data Place : Type 0 where
-  nowhere : Place
-  at : ℕ → Place
-
 -- "the Quit byte's under cause 1, under Convert the first replaced byte among those gone through, else none"
 abbrev pub binaryPlace : Binary → ℕ → ℕ → ℕ → List ℕ → Place
-binaryPlace Ignore terminator cause bytes input = nowhere
-binaryPlace (Quit b) terminator cause bytes input = cond (eqb cause 1) (at (firstPlace b input)) nowhere
+binaryPlace Ignore terminator cause bytes input = Nowhere
+binaryPlace (Quit b) terminator cause bytes input = cond (eqb cause 1) (At (firstPlace b input)) Nowhere
 binaryPlace (Convert b) terminator cause bytes input =
-    cond (not (eqb b terminator) && ltb (firstPlace b input) bytes) (at (firstPlace b input)) nowhere
+    cond (not (eqb b terminator) && ltb (firstPlace b input) bytes) (At (firstPlace b input)) Nowhere
 
 -- "written as flag 0 and number 0"
 abbrev pub endWith : ℕ → ℕ → ℕ → ℕ → Place → End
-endWith bytes count matches cause nowhere =
+endWith bytes count matches cause Nowhere =
     record { bytes = bytes; lines = count; matches = matches; cause = cause; flag = 0; offset = 0 }
-endWith bytes count matches cause (at p) =
+endWith bytes count matches cause (At p) =
     record { bytes = bytes; lines = count; matches = matches; cause = cause; flag = 1; offset = p }
 
 unfoldable pub endRecord : Settings → List ℕ → ℕ → ℕ → ℕ → Going → End

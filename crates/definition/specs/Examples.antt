@@ -7,10 +7,11 @@ use mathlib.Core.List.{List, [], _∷_, map}
 use lib.Dec.{eqb}
 use Rattle.definition.specs.declared.Binary.{Binary}
 use Rattle.definition.specs.declared.Binary.the-variants.{Ignore, Quit, Convert}
+use Rattle.definition.specs.declared.End.{End}
 use Rattle.definition.specs.declared.Limit.{Limit}
 use Rattle.definition.specs.declared.Limit.the-variants.{Unlimited, Most}
 use Rattle.definition.specs.declared.Settings.{Settings}
-use Rattle.definition.specs.Definition.{End, rowsOf, endOf}
+use Rattle.definition.specs.Definition.{rowsOf, endOf}
 use Rattle.definition.specs.Rows.{Row}
 use Rattle.definition.specs.State.{opened, keptRows}
 use Rattle.definition.specs.Text.{lines, text}

@@ -5,9 +5,9 @@ use mathlib.Core.Bool.{Bool, false}
 use mathlib.Core.List.{List, [], _∷_, _++_, flatten}
 use lib.ListN.{length, take, drop}
 use Rattle.definition.specs.declared.Settings.{Settings}
-use Rattle.definition.specs.Definition.{End, endRecord, firstPlace, goingNext, rowsOf, endOf}
+use Rattle.definition.specs.Definition.{endRecord, goingNext, rowsOf, endOf}
 use Rattle.definition.specs.State.{State, opened, state, rows, trim, keptRows}
-use Rattle.definition.specs.Text.{handed, lines, replaced, text}
+use Rattle.definition.specs.Text.{firstPlace, handed, lines, replaced, text}
 
 -- the state after all lines of an input
 unfoldable pub finalState : Settings → List ℕ → (ℕ → Bool) → State

@@ -33,6 +33,10 @@ break = record { kind = breakKind; offset = 0; length = 0; number = 0 }
 abbrev pub flat : Row → List ℕ
 flat r = r .kind ∷ (r .offset ∷ (r .length ∷ (r .number ∷ [])))
 
+-- how many numbers a row is
+abbrev pub rowSize : ℕ
+rowSize = 4
+
 -- where a line stands: its first byte, counting from 0, its length with terminator, its number
 pub record Line : Type 0 where
   pub offset : ℕ

@@ -3,6 +3,7 @@ use Prim.Native.Nat.{ℕ}
 use mathlib.Core.Bool.{Bool, cond}
 use mathlib.Core.List.{List, [], _∷_, map}
 use lib.Dec.{eqb}
+use lib.ListN.{length}
 use Rattle.definition.specs.declared.Binary.{Binary}
 use Rattle.definition.specs.declared.Binary.the-variants.{Ignore, Quit, Convert}
 use Rattle.definition.specs.declared.Settings.{Settings}
@@ -11,6 +12,10 @@ use Rattle.definition.specs.declared.Settings.{Settings}
 unfoldable pub upTo : ℕ → List ℕ → List ℕ
 upTo b [] = []
 upTo b (x ∷ xs) = cond (eqb x b) [] (x ∷ upTo b xs)
+
+-- the first place of b, counting from 0; the length where there is none
+unfoldable pub firstPlace : ℕ → List ℕ → ℕ
+firstPlace b bytes = length (upTo b bytes)
 
 -- each b becomes t
 unfoldable pub replaced : ℕ → ℕ → List ℕ → List ℕ

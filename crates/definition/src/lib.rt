@@ -36,6 +36,25 @@ pub struct Settings {
     pub binary: Binary,
 }
 
+// Where a byte was met that the end record tells of, counting from 0.
+pub enum Place {
+    Nowhere,
+    At(u64),
+}
+
+// The end record.
+pub struct End {
+    // gone through
+    pub bytes: u64,
+    pub lines: u64,
+    pub matches: u64,
+    // 0 end of input, 1 Quit byte, 2 limit, 3 nonmatch
+    pub cause: u64,
+    // the binary offset: 1 and the number, or 0 and 0
+    pub flag: u64,
+    pub offset: u64,
+}
+
 // The largest value each may take. The specs name the same bounds in Bounds.antt, and a proof of any function that
 // tests one against the other fails where the two differ.
 pub const MAX_CONTEXT: usize = 1_000;
