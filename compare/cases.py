@@ -12,13 +12,12 @@ ORACLE = Path(__file__).resolve().parent.parent / "target" / "oracle" / "oracle"
 # `answers` is a text of 0 and 1 by line number, or `has:` and a literal in hexadecimal.
 Case = namedtuple("Case", "settings cuts data answers sniff", defaults=(False,))
 
+KINDS = {"none": "n", "quit": "q", "convert": "c"}
+BY_LETTER = {letter: kind for kind, letter in KINDS.items()}
+
 
 class Failed(Exception):
     """A comparison that did not come out as it must."""
-
-
-KINDS = {"none": "n", "quit": "q", "convert": "c"}
-BY_LETTER = {letter: kind for kind, letter in KINDS.items()}
 
 
 def dash(text):
@@ -38,7 +37,8 @@ def written(case):
 
 def read(line):
     """The case that a line for the oracle puts."""
-    before, after, invert, passing, stop, limit, terminator, binary, byte, window, sniff, cuts, data, answers = line.split(" ")
+    *numbers, sniff, cuts, data, answers = line.split(" ")
+    before, after, invert, passing, stop, limit, terminator, binary, byte, window = numbers
     settings = Settings(
         int(before), int(after), invert == "1", passing == "1", stop == "1", None if limit == "-" else int(limit),
         int(terminator), BY_LETTER[binary], int(byte), int(window),

@@ -69,11 +69,12 @@ def zero_reads():
 def beyond_bounds():
     """Around the largest settings and buffers, pass-through with context among them."""
     small = Settings(0, 0, False, False, False, None, NEWLINE, "none", NUL, LONGEST_WINDOW)
-    for before, after, passing in product((0, 1, MOST_CONTEXT, MOST_CONTEXT + 1), (0, 1, MOST_CONTEXT, MOST_CONTEXT + 1), FLAGS):
-        for limit in (None, 1, MOST_LIMIT, MOST_LIMIT + 1):
-            for window in (0, 6, LONGEST_WINDOW, LONGEST_WINDOW + 1):
-                s = small._replace(before=before, after=after, passing=passing, limit=limit, window=window)
-                yield Case(s, (), b"a\nb\na\n", "010")
+    contexts = (0, 1, MOST_CONTEXT, MOST_CONTEXT + 1)
+    limits = (None, 1, MOST_LIMIT, MOST_LIMIT + 1)
+    windows = (0, 6, LONGEST_WINDOW, LONGEST_WINDOW + 1)
+    for before, after, passing, limit, window in product(contexts, contexts, FLAGS, limits, windows):
+        s = small._replace(before=before, after=after, passing=passing, limit=limit, window=window)
+        yield Case(s, (), b"a\nb\na\n", "010")
     for length, window in product(range(-2, 3), range(-2, 3)):
         data = b"a" * (LONGEST_WINDOW + length - 1) + b"\n"
         yield Case(small._replace(window=LONGEST_WINDOW + window), (), data, "1")
@@ -88,10 +89,11 @@ def from_seed(count):
         data = bytes(dice.choices(letters, k=dice.randint(0, 40)))
         passing = dice.random() < 0.2
         before, after = (0, 0) if passing else (dice.randint(0, 4), dice.randint(0, 4))
-        s = Settings(
-            before, after, dice.random() < 0.5, passing, dice.random() < 0.3, dice.choice([None, None, 0, 1, 2, 3, 5]),
-            terminator, dice.choice(["none", "quit", "convert"]), byte, dice.choice([dice.randint(1, 40), LONGEST_WINDOW]),
-        )
+        invert, stop = dice.random() < 0.5, dice.random() < 0.3
+        limit = dice.choice([None, None, 0, 1, 2, 3, 5])
+        binary = dice.choice(["none", "quit", "convert"])
+        window = dice.choice([dice.randint(1, 40), LONGEST_WINDOW])
+        s = Settings(before, after, invert, passing, stop, limit, terminator, binary, byte, window)
         cuts = tuple(dice.randint(1, 8) for _ in range(dice.randint(0, 12)))
         answers = "".join(dice.choices("01", k=line_count(s, data)))
         if dice.random() < 0.2:

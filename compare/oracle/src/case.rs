@@ -20,7 +20,9 @@ pub struct Case {
 }
 
 fn number<T: std::str::FromStr>(field: &str) -> Result<T, String> {
-    field.parse().map_err(|_| format!("not a number in range: {field}"))
+    field
+        .parse()
+        .map_err(|_| format!("not a number in range: {field}"))
 }
 
 fn flag(field: &str) -> Result<bool, String> {
@@ -32,7 +34,11 @@ fn flag(field: &str) -> Result<bool, String> {
 }
 
 fn optional<T: std::str::FromStr>(field: &str) -> Result<Option<T>, String> {
-    if field == "-" { Ok(None) } else { number(field).map(Some) }
+    if field == "-" {
+        Ok(None)
+    } else {
+        number(field).map(Some)
+    }
 }
 
 fn hex(field: &str) -> Result<Vec<u8>, String> {
@@ -59,12 +65,24 @@ fn binary(kind: &str, byte: u8) -> Result<BinaryDetection, String> {
 
 /// The lines of the text without their terminators, as the matcher ought to see them.
 fn lines(input: &[u8], terminator: u8, kind: &str, byte: u8) -> Vec<Vec<u8>> {
-    let cut = input.iter().position(|&b| kind == "q" && b == byte).unwrap_or(input.len());
+    let cut = input
+        .iter()
+        .position(|&b| kind == "q" && b == byte)
+        .unwrap_or(input.len());
     let text: Vec<u8> = input[..cut]
         .iter()
-        .map(|&b| if kind == "c" && b == byte { terminator } else { b })
+        .map(|&b| {
+            if kind == "c" && b == byte {
+                terminator
+            } else {
+                b
+            }
+        })
         .collect();
-    let mut lines: Vec<Vec<u8>> = text.split(|&b| b == terminator).map(<[u8]>::to_vec).collect();
+    let mut lines: Vec<Vec<u8>> = text
+        .split(|&b| b == terminator)
+        .map(<[u8]>::to_vec)
+        .collect();
     // What follows the last terminator is a line only if there is something.
     if lines.last().is_some_and(Vec::is_empty) {
         lines.pop();
@@ -80,13 +98,18 @@ fn answers(field: &str, lines: Vec<Vec<u8>>) -> Result<Answers, String> {
     if said.len() != lines.len() {
         return Err(format!("{} answers for {} lines", said.len(), lines.len()));
     }
-    let said: Result<Vec<bool>, String> =
-        (0..said.len()).map(|i| flag(said.get(i..=i).unwrap_or(said))).collect();
+    let said: Result<Vec<bool>, String> = (0..said.len())
+        .map(|i| flag(said.get(i..=i).unwrap_or(said)))
+        .collect();
     Ok(Answers::Listed(lines.into_iter().zip(said?).collect()))
 }
 
 fn cuts(field: &str) -> Result<Vec<usize>, String> {
-    if field == "-" { Ok(vec![]) } else { field.split(',').map(number).collect() }
+    if field == "-" {
+        Ok(vec![])
+    } else {
+        field.split(',').map(number).collect()
+    }
 }
 
 pub fn parse(line: &str) -> Result<Case, String> {
@@ -113,5 +136,10 @@ pub fn parse(line: &str) -> Result<Case, String> {
         .line_number(true)
         .build();
     let answers = answers(said, lines(&input, terminator, kind, byte))?;
-    Ok(Case { searcher, cuts: cuts(pieces)?, input, answers })
+    Ok(Case {
+        searcher,
+        cuts: cuts(pieces)?,
+        input,
+        answers,
+    })
 }

@@ -114,15 +114,24 @@ impl Sink for Rows {
     }
 
     fn finish(&mut self, _: &Searcher, end: &SinkFinish) -> io::Result<()> {
-        let binary = end.binary_byte_offset().map_or("-".to_string(), |n| n.to_string());
+        let binary = end
+            .binary_byte_offset()
+            .map_or("-".to_string(), |n| n.to_string());
         self.last(format_args!("end {} {binary}", end.byte_count()));
         Ok(())
     }
 }
 
 pub fn search(mut case: Case) -> Rows {
-    let matcher = FromCase { answers: &case.answers, asked: Cell::new(0) };
-    let reader = Pieces { rest: &case.input, cuts: case.cuts, at: 0 };
+    let matcher = FromCase {
+        answers: &case.answers,
+        asked: Cell::new(0),
+    };
+    let reader = Pieces {
+        rest: &case.input,
+        cuts: case.cuts,
+        at: 0,
+    };
     let mut rows = Rows::default();
     if let Err(error) = case.searcher.search_reader(&matcher, reader, &mut rows) {
         rows.last(format_args!("error {error}"));
@@ -136,7 +145,10 @@ pub struct Watch {
     slow: AtomicU64,
 }
 
-static WATCH: Watch = Watch { rolled: AtomicU64::new(0), slow: AtomicU64::new(0) };
+static WATCH: Watch = Watch {
+    rolled: AtomicU64::new(0),
+    slow: AtomicU64::new(0),
+};
 
 impl log::Log for Watch {
     fn enabled(&self, _: &log::Metadata) -> bool {
@@ -145,7 +157,9 @@ impl log::Log for Watch {
 
     fn log(&self, record: &log::Record) {
         match record.args().as_str() {
-            Some("generic reader: searching via roll buffer strategy") => self.rolled.fetch_add(1, Relaxed),
+            Some("generic reader: searching via roll buffer strategy") => {
+                self.rolled.fetch_add(1, Relaxed)
+            }
             Some("searcher core: will use slow line searcher") => self.slow.fetch_add(1, Relaxed),
             _ => 0,
         };
@@ -168,6 +182,8 @@ impl Watch {
         if rolled == begun && slow == begun {
             return Ok(());
         }
-        Err(format!("{begun} searches, {rolled} through the rolling buffer, {slow} on the slow path"))
+        Err(format!(
+            "{begun} searches, {rolled} through the rolling buffer, {slow} on the slow path"
+        ))
     }
 }

@@ -1,0 +1,17 @@
+-- The claim of specs/Driven.antt, by computation.
+use mathlib.Core.Path.{_≡_, refl}
+use mathlib.Core.Bool.{xor}
+use mathlib.Core.List.{flatten}
+use Rattle.definition.specs.Bounds.{allowed, contextual}
+use Rattle.definition.specs.Definition.{selected, fate, goingNext, lastOf}
+use Rattle.definition.specs.State.{nextLine, breaks, stateNext, fateOf, keptLines}
+use Rattle.definition.specs.Text.{upTo, firstPlace, replaced, text, onto, lines}
+use Rattle.session.specs.Calls.{opening, opened, beforeQuit, idle, quitFront, fitting, taking, offering, stored, storedWindow, offered, offeredWindow, waiting, shownLine, answerRows, belowOne, answering, stepped, answerSession, putRows, answered, answeredTable, toldSession, told, remains, recording, recordedPlace, recordOf, recorded}
+use Rattle.session.specs.Driven.{Plays, Table}
+use Rattle.session.specs.Held.{unanswered, lineBytes, waits, lineLength, sinceLines, keptBytes, heldBytes, keptFrom, backFrom, shown}
+use Rattle.session.specs.Run.{rowsIn}
+use Rattle.session.specs.Sound.{takenBytes, agrees, sound}
+
+pub table-plays : Plays Table
+unfolding xor flatten allowed contextual selected fate goingNext lastOf nextLine breaks stateNext fateOf keptLines upTo firstPlace replaced text onto lines opening opened beforeQuit idle quitFront fitting taking offering stored storedWindow offered offeredWindow waiting shownLine answerRows belowOne answering stepped answerSession putRows answered answeredTable toldSession told remains recording recordedPlace recordOf recorded unanswered lineBytes waits lineLength sinceLines keptBytes heldBytes keptFrom backFrom shown rowsIn takenBytes agrees sound
+table-plays = refl

@@ -1,0 +1,2 @@
+-- What is proved of the session.
+pub mod Driven

@@ -1,0 +1,6 @@
+-- 01, "A session", as functions of a session, a window, a piece and a row table; and the promises over every run.
+pub mod Held
+pub mod Sound
+pub mod Calls
+pub mod Run
+pub mod Driven

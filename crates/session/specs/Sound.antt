@@ -1,0 +1,68 @@
+-- 01, refusal 6: the list of numbers that contradict each other, and the closed session.
+use Prim.Native.Nat.{ℕ, _+_, _-_}
+use mathlib.Core.Bool.{Bool, true, false, _&&_, _||_}
+use lib.Dec.{ltb, leb, eqb}
+use Rattle.definition.specs.declared.Binary.the-variants.{Ignore}
+use Rattle.definition.specs.declared.Going.the-variants.{On}
+use Rattle.definition.specs.declared.Limit.{Limit}
+use Rattle.definition.specs.declared.Limit.the-variants.{Unlimited, Most}
+use Rattle.definition.specs.declared.Place.the-variants.{Nowhere}
+use Rattle.definition.specs.declared.Settings.{Settings}
+use Rattle.definition.specs.Bounds.{allowed, maxInput, maxWindow}
+use Rattle.session.specs.declared.Input.the-variants.{Open}
+use Rattle.session.specs.declared.Session.{Session}
+
+-- "Bytes taken always equal bytes gone through plus" what is held and not answered
+unfoldable pub takenBytes : Session → ℕ
+takenBytes s = s .bytes + (s .end - s .next)
+
+abbrev pub withinLimit : Limit → ℕ → Bool
+withinLimit Unlimited matches = true
+withinLimit (Most n) matches = leb matches n
+
+-- No number contradicts another. A closed session fails the second test.
+unfoldable pub agrees : Session → Bool
+agrees s =
+    allowed (s .settings)
+    && (ltb 0 (s .window) && leb (s .window) maxWindow)
+    && (leb (s .floor) (s .next) && leb (s .next) (s .end) && leb (s .end) (s .window))
+    && leb (s .next - s .floor) (s .bytes)
+    && leb (takenBytes s) maxInput
+    && leb (s .lines) (s .bytes)
+    && leb (s .matches) (s .lines)
+    && withinLimit (s .settings .limit) (s .matches)
+    && leb (s .left) (s .settings .after)
+    && (eqb (s .left) 0 || eqb (s .floor) (s .next))
+
+-- "any call on a closed session, with a window of another length than at opening, or on a session whose numbers contradict each other"
+unfoldable pub sound : Session → ℕ → Bool
+sound s window = agrees s && eqb window (s .window)
+
+-- "a closed session that answers 6 to everything"
+abbrev pub closed : Session
+closed =
+    record {
+      settings =
+          record {
+            before = 0;
+            after = 0;
+            invert = false;
+            passthru = false;
+            stop = false;
+            limit = Unlimited;
+            terminator = 0;
+            binary = Ignore;
+          };
+      window = 0;
+      floor = 0;
+      next = 0;
+      end = 0;
+      bytes = 0;
+      lines = 0;
+      matches = 0;
+      left = 0;
+      given = false;
+      going = On;
+      input = Open;
+      replaced = Nowhere;
+    }
