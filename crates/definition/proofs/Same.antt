@@ -9,7 +9,7 @@ use native.Mathlib.Decide.{decLe}
 use native.Mathlib.Omega.{arith}
 use lib.Dec.{ltb, eqb}
 use lib.ListN.{length, take, drop, length-append, length-take, take-append-drop}
-use borrow.Author.Tests.{lt-ltb, le-ltb, ltb-true, ltb-false}
+use borrow.Author.Tests.{lt-ltb, le-ltb}
 use Rattle.definition.specs.declared.Going.{Going}
 use Rattle.definition.specs.declared.Going.the-variants.{On, LimitMet, NonmatchMet}
 use Rattle.definition.specs.declared.Settings.{Settings}
@@ -19,6 +19,7 @@ use Rattle.definition.specs.Laws.{SameRows, SameEnd, EmptyText, finalSta
 use Rattle.definition.specs.Rows.{Line, Row, row, break, placed, matchKind, beforeKind, afterKind, otherKind}
 use Rattle.definition.specs.State.{State, opened, nextLine, breaks, rowsFor, stateNext, givenNext, sinceNext, fateOf, stepRows, stepState, state, rows}
 use Rattle.definition.specs.Text.{lines, text}
+use Rattle.definition.proofs.Fates.{FateCase, selects, owes, passes, skips, fate-case}
 use Rattle.definition.proofs.Given.{Numbered, numbered-append, numbered-join, AtMost, at-most-join, at-most-more, at-most-rows, lastNumber-append, own-row, keeps-left, keeps-right, rowless-append, rowless-later, Covered, covered-more, covered-drop, covered-given, covered-snoc, between-append, between-before, between-behind, between-inside, follow-rows, give-next, gap, give-gap}
 use Rattle.definition.proofs.Kept.{state-stopped, rows-stopped}
 use Rattle.definition.proofs.Lists.{lastOf-append, lastOf-lastOf}
@@ -290,15 +291,11 @@ module _ (c : Settings) (g : Gone) (s : State) (a : Agree c g s) (len : ℕ) whe
 
 -- # All lines
 
-right : (c : Settings) (g : Gone) (s : State) (a : Agree c g s) (len : ℕ) (sel : Bool) → Right c g s a len (fate c sel (s .afterLeft))
-unfolding fate
-right c g s a len true = tt
-right c g s a len false = go (ltb 0 (s .afterLeft)) refl (c .passthru) refl
-  where
-    go : (b : Bool) → ltb 0 (s .afterLeft) ≡ b → (p : Bool) → c .passthru ≡ p → Right c g s a len (cond b after (cond p other norow))
-    go true e p q = a .left-none (ltb-true 0 (s .afterLeft) e)
-    go false e true q = a .pass-none q
-    go false e false q = (omega (arith, ltb-false 0 (s .afterLeft) e), q)
+right : (c : Settings) (g : Gone) (s : State) (a : Agree c g s) (len : ℕ) (sel : Bool) (f : Fate) → FateCase c sel (s .afterLeft) f → Right c g s a len f
+right c g s a len sel match (selects e) = tt
+right c g s a len sel after (owes e h) = a .left-none h
+right c g s a len sel other (passes e h p) = a .pass-none p
+right c g s a len sel norow (skips e h p) = (h, p)
 
 -- after a stop the walk goes through no line
 goThrough-stopped : (k : Going) (c : Settings) (g : Gone) (l : Line) (answer : Bool) → (k ≡ On → ⊥) → goThrough k c g l answer ≡ g
@@ -332,7 +329,7 @@ same-on c answers g s l ls a e ih =
     let next = nextLine s len in
     let f = fateOf c s answer in
     let rest = placed (s .bytes + len) (s .lines + 1 + 1) ls in
-    let t = step c g s a len f (right c g s a len (selected c (s .matches) answer)) in
+    let t = step c g s a len f (right c g s a len (selected c (s .matches) answer) f (fate-case c (selected c (s .matches) answer) (s .afterLeft))) in
     let later = ih (goneNext f c g next) (stateNext f c s len) (t .1) in
     let walked : walk c answers g (next ∷ rest) ≡ walk c answers (goneNext f c g next) rest =
     ap (λ (k : Going). walk c answers (goThrough k c g next answer) rest) (a .going-is ∙ e)

@@ -1,11 +1,14 @@
 -- Facts about the terminator, proved once over that byte: how a text falls into lines, and what of a line is handed to the matcher.
-use Prim.Native.Nat.{ℕ, suc, _+_, _≤_, _<_}
+use Prim.Native.Nat.{ℕ, zero, suc, _+_, _≤_, _<_, min}
 use mathlib.Core.Path.{_≡_, refl, sym, _∙_, ap, ap₂}
 use mathlib.Core.Bool.{Bool, true, false, cond}
-use mathlib.Core.List.{List, [], _∷_, _++_, flatten}
+use mathlib.Core.List.{List, [], _∷_, _++_, append-assoc, append-nil, flatten, tail-eq-of-cons-eq}
+use mathlib.Core.Logic.{_⊎_, inl, inr}
+use native.Mathlib.Decide.{decLt}
 use native.Mathlib.Omega.{arith}
 use lib.Dec.{eqb}
-use lib.ListN.{length, take, drop}
+use lib.ListN.{length, take, drop, length-append, length-take}
+use lib.Seq.{take-length, drop-length, take-append-le, drop-append-le}
 use borrow.Author.Tests.{eqb-true}
 use Rattle.definition.specs.Laws.{ConvertSame, LinesWhole, LinesFirst, LinesRest, HandedWhole}
 use Rattle.definition.specs.Text.{upTo, firstPlace, replaced, onto, lines, handed}
@@ -73,3 +76,144 @@ handed-whole t (x ∷ xs) h = go (eqb x t) refl h (handed-whole t xs)
     go false e h ih =
         let n : suc (firstPlace t xs) + 1 ≡ suc (firstPlace t xs + 1) = omega arith in
         rw (n, e, ih (omega arith))
+
+-- # The first terminator
+
+pub first-le : (t : ℕ) (xs : List ℕ) → firstPlace t xs ≤ length xs
+unfolding firstPlace upTo
+first-le t [] = omega arith
+first-le t (x ∷ xs) = go (eqb x t) (first-le t xs)
+  where
+    go : (b : Bool) → firstPlace t xs ≤ length xs → length (cond b [] (x ∷ upTo t xs)) ≤ length (x ∷ xs)
+    go true h = omega arith
+    go false h = omega arith
+
+-- bytes without a terminator are all before the first
+pub upTo-none : (t : ℕ) (xs : List ℕ) → length xs ≤ firstPlace t xs → upTo t xs ≡ xs
+unfolding firstPlace upTo
+upTo-none t [] h = refl
+upTo-none t (x ∷ xs) h = go (eqb x t) h (upTo-none t xs)
+  where
+    go : (b : Bool) → length (x ∷ xs) ≤ length (cond b [] (x ∷ upTo t xs)) → (length xs ≤ length (upTo t xs) → upTo t xs ≡ xs)
+        → cond b [] (x ∷ upTo t xs) ≡ x ∷ xs
+    go true h ih = absurd (omega arith)
+    go false h ih = ap (λ ys. x ∷ ys) (ih (omega arith))
+
+-- the first of two joined parts decides where it has one ..
+pub upTo-append : (t : ℕ) (xs ys : List ℕ) → firstPlace t xs < length xs → upTo t (xs ++ ys) ≡ upTo t xs
+unfolding firstPlace upTo
+upTo-append t [] ys h = absurd (omega arith)
+upTo-append t (x ∷ xs) ys h = go (eqb x t) h (upTo-append t xs ys)
+  where
+    go : (b : Bool) → length (cond b [] (x ∷ upTo t xs)) < length (x ∷ xs) → (length (upTo t xs) < length xs → upTo t (xs ++ ys) ≡ upTo t xs)
+        → cond b [] (x ∷ upTo t (xs ++ ys)) ≡ cond b [] (x ∷ upTo t xs)
+    go true h ih = refl
+    go false h ih = ap (λ zs. x ∷ zs) (ih (omega arith))
+
+-- .. and the second where it has none
+pub upTo-append-none : (t : ℕ) (xs ys : List ℕ) → length xs ≤ firstPlace t xs → upTo t (xs ++ ys) ≡ xs ++ upTo t ys
+unfolding firstPlace upTo
+upTo-append-none t [] ys h = refl
+upTo-append-none t (x ∷ xs) ys h = go (eqb x t) h (upTo-append-none t xs ys)
+  where
+    go : (b : Bool) → length (x ∷ xs) ≤ length (cond b [] (x ∷ upTo t xs)) → (length xs ≤ length (upTo t xs) → upTo t (xs ++ ys) ≡ xs ++ upTo t ys)
+        → cond b [] (x ∷ upTo t (xs ++ ys)) ≡ x ∷ (xs ++ upTo t ys)
+    go true h ih = absurd (omega arith)
+    go false h ih = ap (λ zs. x ∷ zs) (ih (omega arith))
+
+pub first-append : (t : ℕ) (xs ys : List ℕ) → firstPlace t xs < length xs → firstPlace t (xs ++ ys) ≡ firstPlace t xs
+unfolding firstPlace
+first-append t xs ys h = ap length (upTo-append t xs ys h)
+
+pub first-append-none : (t : ℕ) (xs ys : List ℕ) → length xs ≤ firstPlace t xs → firstPlace t (xs ++ ys) ≡ length xs + firstPlace t ys
+unfolding firstPlace
+first-append-none t xs ys h = ap length (upTo-append-none t xs ys h) ∙ length-append xs (upTo t ys)
+
+-- # The next line of bytes of which only a part is at hand
+
+-- the length of the first line, with its terminator
+abbrev pub firstLength : ℕ → List ℕ → ℕ
+firstLength t xs = min (firstPlace t xs + 1) (length xs)
+
+-- The first line, whether it has a terminator or not.
+pub lines-head : (t : ℕ) (xs : List ℕ) → 0 < length xs → lines t xs ≡ take (firstLength t xs) xs ∷ lines t (drop (firstLength t xs) xs)
+unfolding lines
+lines-head t xs h = elim (decLt (firstPlace t xs) (length xs)) [
+    yes k ↦
+      let e : firstLength t xs ≡ firstPlace t xs + 1 = omega arith in
+      rw e (lines-first t xs k)
+  | no k ↦
+      let e : firstLength t xs ≡ length xs = omega arith in
+      rw (e, take-length xs, drop-length xs) (lines-rest t xs h (omega arith)) ]
+
+-- It is known once its terminator is at hand, or once nothing more comes.
+pub lines-next : (t : ℕ) (xs ys : List ℕ) → (firstPlace t xs < length xs) ⊎ ((0 < length xs) × (ys ≡ []))
+    → lines t (xs ++ ys) ≡ take (firstLength t xs) xs ∷ lines t (drop (firstLength t xs) xs ++ ys)
+lines-next t xs ys (inl h) =
+    let k = length-append xs ys in
+    let e : firstLength t (xs ++ ys) ≡ firstLength t xs = omega (arith, k, first-append t xs ys h) in
+    rw (lines-head t (xs ++ ys) (omega (arith, k)), e, take-append-le (firstLength t xs) xs ys (omega arith), drop-append-le (firstLength t xs) xs ys (omega arith))
+lines-next t xs ys (inr h) = rw (h .1, append-nil xs, append-nil (drop (firstLength t xs) xs)) (lines-head t xs (h .0))
+
+-- What is handed of it.
+pub handed-next : (t : ℕ) (xs : List ℕ) → handed t (take (firstLength t xs) xs) ≡ take (firstPlace t xs) xs
+unfolding handed
+handed-next t xs = elim (decLt (firstPlace t xs) (length xs)) [
+    yes k ↦
+      let e : firstLength t xs ≡ firstPlace t xs + 1 = omega arith in
+      rw e (handed-whole t xs k)
+  | no k ↦
+      let e : firstLength t xs ≡ length xs = omega arith in
+      let p : firstPlace t xs ≡ length xs = omega (arith, first-le t xs) in
+      rw (e, p, take-length xs) (upTo-none t xs (omega arith)) ]
+
+-- # Whole lines
+
+-- Bytes that fall into whole lines: whatever follows starts a new line.
+abbrev pub Whole : ℕ → List ℕ → Type 0
+Whole t xs = (ys : List ℕ) → lines t (xs ++ ys) ≡ lines t xs ++ lines t ys
+
+pub whole-none : (t : ℕ) → Whole t []
+unfolding lines
+whole-none t ys = refl
+
+pub whole-append : (t : ℕ) (xs ys : List ℕ) → Whole t xs → Whole t ys → Whole t (xs ++ ys)
+whole-append t xs ys h k zs =
+    rw (append-assoc xs ys zs, h (ys ++ zs), k zs, h ys) (sym (append-assoc (lines t xs) (lines t ys) (lines t zs)))
+
+-- a line that ends in its only terminator
+line-then : (t : ℕ) (l ys : List ℕ) → firstPlace t l + 1 ≡ length l → lines t (l ++ ys) ≡ l ∷ lines t ys
+line-then t l ys e =
+    let n : firstLength t l ≡ length l = omega arith in
+    lines-next t l ys (inl (omega arith)) ∙ rw (n, take-length l, drop-length l)
+
+pub whole-line : (t : ℕ) (xs : List ℕ) → firstPlace t xs < length xs → Whole t (take (firstLength t xs) xs)
+unfolding lines firstPlace handed
+whole-line t xs h ys =
+    let l = take (firstLength t xs) xs in
+    let first : firstPlace t l ≡ length (take (firstPlace t xs) xs) = ap length (handed-next t xs) in
+    let e : firstPlace t l + 1 ≡ length l = omega (arith, first, length-take (firstPlace t xs) xs, length-take (firstLength t xs) xs) in
+    let alone : lines t l ≡ l ∷ [] = rw (append-nil l) at (line-then t l [] e) in
+    rw alone (line-then t l ys e)
+
+-- The lines from some line on are the lines of those bytes, ..
+pub lines-drop : (j t : ℕ) (xs : List ℕ) → lines t (flatten (drop j (lines t xs))) ≡ drop j (lines t xs)
+unfolding lines flatten
+lines-drop zero t xs = ap (lines t) (lines-whole t xs)
+lines-drop (suc j) t [] = refl
+lines-drop (suc j) t (x ∷ xs) = rw (lines-head t (x ∷ xs) (omega arith)) (lines-drop j t (drop (firstLength t (x ∷ xs)) (x ∷ xs)))
+
+whole-rest : (t : ℕ) (xs : List ℕ) → Whole t xs → Whole t (drop (firstLength t xs) xs)
+whole-rest t xs h = elim (decLt (firstPlace t xs) (length xs)) [
+    yes k ↦ λ ys. tail-eq-of-cons-eq (sym (lines-next t xs ys (inl k)) ∙ h ys ∙ ap (λ ls. ls ++ lines t ys) (lines-head t xs (omega arith)))
+  | no k ↦
+      let n : firstLength t xs ≡ length xs = omega arith in
+      rw (n, drop-length xs) (whole-none t) ]
+
+-- .. whole where all of them are.
+pub whole-drop : (j t : ℕ) (xs : List ℕ) → Whole t xs → Whole t (flatten (drop j (lines t xs)))
+unfolding lines flatten
+whole-drop zero t xs h = rw (lines-whole t xs) h
+whole-drop (suc j) t [] h = whole-none t
+whole-drop (suc j) t (x ∷ xs) h =
+    rw (lines-head t (x ∷ xs) (omega arith)) (whole-drop j t (drop (firstLength t (x ∷ xs)) (x ∷ xs)) (whole-rest t (x ∷ xs) h))

@@ -1,2 +1,6 @@
 -- What is proved of the session.
+pub mod Parts
+pub mod Agree
+pub mod Cases
+pub mod Keeps
 pub mod Driven

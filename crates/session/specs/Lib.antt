@@ -3,4 +3,6 @@ pub mod Held
 pub mod Sound
 pub mod Calls
 pub mod Run
+pub mod Promises
+pub mod Caller
 pub mod Driven

@@ -1,6 +1,7 @@
 -- 01, refusal 6: the list of numbers that contradict each other, and the closed session.
 use Prim.Native.Nat.{ℕ, _+_, _-_}
 use mathlib.Core.Bool.{Bool, true, false, _&&_, _||_}
+use mathlib.Core.List.{List, [], _∷_}
 use lib.Dec.{ltb, leb, eqb}
 use Rattle.definition.specs.declared.Binary.the-variants.{Ignore}
 use Rattle.definition.specs.declared.Going.the-variants.{On}
@@ -20,19 +21,30 @@ abbrev pub withinLimit : Limit → ℕ → Bool
 withinLimit Unlimited matches = true
 withinLimit (Most n) matches = leb matches n
 
--- No number contradicts another. A closed session fails the second test.
-unfoldable pub agrees : Session → Bool
-agrees s =
+-- The list: each test fails where numbers contradict each other. A closed session fails the second.
+unfoldable pub tests : Session → List Bool
+tests s =
     allowed (s .settings)
-    && (ltb 0 (s .window) && leb (s .window) maxWindow)
-    && (leb (s .floor) (s .next) && leb (s .next) (s .end) && leb (s .end) (s .window))
-    && leb (s .next - s .floor) (s .bytes)
-    && leb (takenBytes s) maxInput
-    && leb (s .lines) (s .bytes)
-    && leb (s .matches) (s .lines)
-    && withinLimit (s .settings .limit) (s .matches)
-    && leb (s .left) (s .settings .after)
-    && (eqb (s .left) 0 || eqb (s .floor) (s .next))
+    ∷ ltb 0 (s .window)
+    ∷ leb (s .window) maxWindow
+    ∷ leb (s .floor) (s .next)
+    ∷ leb (s .next) (s .end)
+    ∷ leb (s .end) (s .window)
+    ∷ leb (s .next - s .floor) (s .bytes)
+    ∷ leb (takenBytes s) maxInput
+    ∷ leb (s .lines) (s .bytes)
+    ∷ leb (s .matches) (s .lines)
+    ∷ withinLimit (s .settings .limit) (s .matches)
+    ∷ leb (s .left) (s .settings .after)
+    ∷ (eqb (s .left) 0 || eqb (s .floor) (s .next))
+    ∷ []
+
+abbrev pub every : List Bool → Bool
+every [] = true
+every (b ∷ bs) = b && every bs
+
+unfoldable pub agrees : Session → Bool
+agrees s = every (tests s)
 
 -- "any call on a closed session, with a window of another length than at opening, or on a session whose numbers contradict each other"
 unfoldable pub sound : Session → ℕ → Bool

@@ -1,0 +1,84 @@
+-- Why an offer or an answer decides as it does: a case for each way through the tests.
+use Prim.Native.Nat.{ℕ, _+_, _-_, _*_, _≤_, _<_}
+use mathlib.Core.Path.{_≡_, refl, sym, _∙_, ap}
+use mathlib.Core.Bool.{Bool, true, false, cond, not, _&&_, _||_}
+use mathlib.Core.List.{List, [], _∷_}
+use mathlib.Core.Logic.{_⊎_, inl, inr}
+use lib.Dec.{ltb, leb, eqb}
+use lib.ListN.{length}
+use borrow.Author.Tests.{leb-true, leb-false, ltb-true, ltb-false}
+use Rattle.definition.specs.Bounds.{maxInput}
+use Rattle.definition.specs.Rows.{rowSize}
+use Rattle.session.specs.declared.Answering.{Answering}
+use Rattle.session.specs.declared.Answering.the-variants.{AnswerRefused, Give}
+use Rattle.session.specs.declared.Offering.{Offering}
+use Rattle.session.specs.declared.Offering.the-variants.{OfferRefused, Idle, Take}
+use Rattle.session.specs.declared.Session.{Session}
+use Rattle.session.specs.Calls.{answerRows, answering, beforeQuit, belowOne, fitting, idle, offering, quitFront, taking}
+use Rattle.session.specs.Held.{heldBytes, waits}
+use Rattle.session.specs.Sound.{sound, takenBytes}
+
+module _ (s : Session) (w piece : List ℕ) where
+  -- a piece that is neither idle nor led by a Quit byte
+  abbrev pub Plain : Type 0
+  Plain = (sound s (length w) ≡ true) × (idle s piece ≡ false) × (quitFront s piece ≡ false)
+
+  pub data OfferCase : Offering → Type 0 where
+    unsound : sound s (length w) ≡ false → OfferCase (OfferRefused 6)
+    idling : sound s (length w) ≡ true → idle s piece ≡ true → OfferCase Idle
+    quits : sound s (length w) ≡ true → idle s piece ≡ false → quitFront s piece ≡ true → OfferCase (taking s w piece)
+    sized : Plain → maxInput ≤ takenBytes s → OfferCase (OfferRefused 5)
+    full : Plain → takenBytes s < maxInput → waits s w ≡ false → s .window ≤ heldBytes s w → OfferCase (OfferRefused 3)
+    takes : Plain → takenBytes s < maxInput → (waits s w ≡ true) ⊎ (heldBytes s w < s .window) → OfferCase (taking s w piece)
+
+  offer-room : (b v : Bool) → waits s w ≡ b → leb (s .window) (heldBytes s w) ≡ v → Plain → takenBytes s < maxInput
+      → OfferCase (cond (not b && v) (OfferRefused 3) (taking s w piece))
+  offer-room true v e k p m = takes p m (inl e)
+  offer-room false true e k p m = full p m e (leb-true (s .window) (heldBytes s w) k)
+  offer-room false false e k p m = takes p m (inr (leb-false (s .window) (heldBytes s w) k))
+
+  offer-size : (b : Bool) → leb maxInput (takenBytes s) ≡ b → Plain
+      → OfferCase (cond b (OfferRefused 5) (cond (not (waits s w) && leb (s .window) (heldBytes s w)) (OfferRefused 3) (taking s w piece)))
+  offer-size true e p = sized p (leb-true maxInput (takenBytes s) e)
+  offer-size false e p = offer-room (waits s w) (leb (s .window) (heldBytes s w)) refl refl p (leb-false maxInput (takenBytes s) e)
+
+  offer-first : (b i q : Bool) → sound s (length w) ≡ b → idle s piece ≡ i → quitFront s piece ≡ q
+      → OfferCase
+        (cond (not b) (OfferRefused 6)
+        (cond i Idle
+        (cond q (taking s w piece)
+        (cond (leb maxInput (takenBytes s)) (OfferRefused 5)
+        (cond (not (waits s w) && leb (s .window) (heldBytes s w)) (OfferRefused 3) (taking s w piece))))))
+  offer-first false i q e j k = unsound e
+  offer-first true true q e j k = idling e j
+  offer-first true false true e j k = quits e j k
+  offer-first true false false e j k = offer-size (leb maxInput (takenBytes s)) refl (e, j, k)
+
+  pub offer-case : OfferCase (offering s w piece)
+  unfolding offering
+  offer-case = offer-first (sound s (length w)) (idle s piece) (quitFront s piece) refl refl refl
+
+module _ (s : Session) (w : List ℕ) (table : ℕ) (hit : Bool) where
+  pub data AnswerCase : Answering → Type 0 where
+    unsound : sound s (length w) ≡ false → AnswerCase (AnswerRefused 6)
+    none : sound s (length w) ≡ true → waits s w ≡ false → AnswerCase (AnswerRefused 6)
+    below : sound s (length w) ≡ true → waits s w ≡ true → belowOne s w hit ≡ true → AnswerCase (AnswerRefused 6)
+    few : sound s (length w) ≡ true → waits s w ≡ true → belowOne s w hit ≡ false → table < rowSize * length (answerRows s w hit)
+        → AnswerCase (AnswerRefused 4)
+    gives : sound s (length w) ≡ true → waits s w ≡ true → belowOne s w hit ≡ false → rowSize * length (answerRows s w hit) ≤ table
+        → AnswerCase Give
+
+  answer-first : (b v l f : Bool) → sound s (length w) ≡ b → waits s w ≡ v → belowOne s w hit ≡ l
+      → ltb table (rowSize * length (answerRows s w hit)) ≡ f
+      → AnswerCase
+        (cond (not b) (AnswerRefused 6) (cond (not v) (AnswerRefused 6) (cond l (AnswerRefused 6) (cond f (AnswerRefused 4) Give))))
+  answer-first false v l f e i j k = unsound e
+  answer-first true false l f e i j k = none e i
+  answer-first true true true f e i j k = below e i j
+  answer-first true true false true e i j k = few e i j (ltb-true table (rowSize * length (answerRows s w hit)) k)
+  answer-first true true false false e i j k = gives e i j (ltb-false table (rowSize * length (answerRows s w hit)) k)
+
+  pub answer-case : AnswerCase (answering s w table hit)
+  unfolding answering
+  answer-case =
+      answer-first (sound s (length w)) (waits s w) (belowOne s w hit) (ltb table (rowSize * length (answerRows s w hit))) refl refl refl refl

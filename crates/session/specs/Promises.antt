@@ -1,0 +1,123 @@
+-- The promises to the caller of demand 3, over every run. Each is a statement; the proof of the same name stands in proofs/Promises.antt.
+use Prim.Native.Nat.{ℕ, _+_, _*_, _≤_, _<_}
+use mathlib.Core.Path.{_≡_}
+use mathlib.Core.Bool.{Bool}
+use mathlib.Core.List.{List, [], _∷_, _++_}
+use mathlib.Core.Logic.{_⊎_}
+use lib.ListN.{length, take}
+use Rattle.definition.specs.declared.Going.the-variants.{On}
+use Rattle.definition.specs.declared.Settings.{Settings}
+use Rattle.definition.specs.Bounds.{maxInput}
+use Rattle.definition.specs.Definition.{bytesOf, endOf, rowsOf}
+use Rattle.definition.specs.Rows.{Row, rowSize}
+use Rattle.definition.specs.State.{opened, rows, state, trim}
+use Rattle.definition.specs.Text.{handed, lines, text}
+use Rattle.session.specs.declared.Waiting.the-variants.{Line, NotAsked}
+use Rattle.session.specs.Calls.{answered, offered, recorded, shownLine, told, waiting}
+use Rattle.session.specs.Run.{At, Run, Steps}
+
+-- the end record is served
+abbrev pub Ends : At → Type 0
+Ends a = recorded (a .session) .refusal ≡ 0
+
+-- an offer of some part of what is left is refused for room
+abbrev pub NoRoom : At → Type 0
+NoRoom a = (k : ℕ) × (offered (a .session) (a .window) (take k (a .rest)) .refusal ≡ 3)
+
+-- one list of rows is a beginning of another
+abbrev pub Begins : List Row → List Row → Type 0
+Begins xs ys = (more : List Row) × (xs ++ more ≡ ys)
+
+-- "within 01's size" is read of the text (docs/DECISIONS.md 12)
+abbrev pub Within : Settings → List ℕ → Type 0
+Within c input = length (text c input) ≤ maxInput
+
+-- Finished. "A finished run's rows and end record equal the whole-input definition": where the end record is served, the rows given
+-- are the definition's rows and the end record is the definition's, all fields.
+abbrev pub Finished : Type 0
+Finished =
+    (c : Settings) (input : List ℕ) (answers : ℕ → Bool) (a : At) → Run c input answers a → Ends a
+    → (a .rows ≡ rowsOf c input answers) × (recorded (a .session) .end ≡ endOf c input answers)
+
+-- Beginning. "the rows are the definition's, or a beginning of them": at every moment the rows given are a beginning of the definition's.
+abbrev pub Beginning : Type 0
+Beginning =
+    (c : Settings) (input : List ℕ) (answers : ℕ → Bool) (a : At) → Run c input answers a → Begins (a .rows) (rowsOf c input answers)
+
+-- Cut. "However the input is cut, and whatever the window": two finished runs of one input, settings and answers gave the same rows
+-- and the same end record.
+abbrev pub Cut : Type 0
+Cut =
+    (c : Settings) (input : List ℕ) (answers : ℕ → Bool) (a b : At) → Run c input answers a → Run c input answers b → Ends a → Ends b
+    → (a .rows ≡ b .rows) × (recorded (a .session) .end ≡ recorded (b .session) .end)
+
+-- Handed. The part shown is the definition's next line without its terminator, so that a matcher's yes or no per line is the answer
+-- that the definition speaks of.
+abbrev pub Handed : Type 0
+Handed =
+    (c : Settings) (input : List ℕ) (answers : ℕ → Bool) (a : At) → Run c input answers a → waiting (a .session) (a .window) ≡ Line
+    → (before : List (List ℕ)) × (line : List ℕ) × (later : List (List ℕ))
+    × (lines (c .terminator) (text c input) ≡ before ++ (line ∷ later))
+    × (length before ≡ a .count)
+    × (shownLine (a .session) (a .window) ≡ handed (c .terminator) line)
+
+-- # Room
+
+-- "kept bytes before j": of the lines before a line, the bytes of those kept
+unfoldable pub keptBefore : Settings → (ℕ → Bool) → List (List ℕ) → ℕ
+keptBefore c answers before = bytesOf (trim c (state c answers (opened c) before) .since)
+
+-- every one of some lines, with the lines kept before it, fitted into a window
+abbrev pub Fitted : Settings → (ℕ → Bool) → ℕ → List (List ℕ) → Type 0
+Fitted c answers window ls =
+    (before : List (List ℕ)) (line : List ℕ) (later : List (List ℕ)) → ls ≡ before ++ (line ∷ later)
+    → keptBefore c answers before + length line ≤ window
+
+-- "line j is refused exactly when kept bytes before j plus its own (terminator included) exceed the window": the line after the first
+-- `count`, which the definition's walk reaches, is the first that does not fit.
+pub record TooLong (c : Settings) (input : List ℕ) (answers : ℕ → Bool) (window count : ℕ) : Type 0 where
+  pub before : List (List ℕ)
+  pub line : List ℕ
+  pub later : List (List ℕ)
+  pub lines-are : lines (c .terminator) (text c input) ≡ before ++ (line ∷ later)
+  pub count-is : length before ≡ count
+  pub reached : state c answers (opened c) before .going ≡ On
+  pub fitted : Fitted c answers window before
+  pub exceeds : window < keptBefore c answers before + length line
+
+-- Room, exactly. ".. or a beginning of them followed by a refusal for room exactly where 01's room rule says": an offer is refused by 3
+-- only where the line reached, with the lines kept before it, exceeds the window, every line before it fitted, and the rows given are
+-- those of the lines before it. And where there is such a line no run gets past it, and every run can be carried on to that refusal.
+abbrev pub Room : Type 0
+Room =
+    (c : Settings) (input : List ℕ) (answers : ℕ → Bool) (a : At) → Run c input answers a
+    → (NoRoom a
+    → (t : TooLong c input answers (length (a .window)) (a .count)) × (a .rows ≡ rows c answers (opened c) (t .before)))
+    × (Within c input → (count : ℕ) → TooLong c input answers (length (a .window)) count
+    → (a .count ≤ count) × ((b : At) × Steps answers a b × NoRoom b × (b .count ≡ count)))
+
+-- # Served
+
+-- Served. The caller of demand 3 meets no refusal but 3, and 7 where it asks for the end record too early; and any run can be carried
+-- on, extending the run at hand, until its end record is served or it is refused by 3. So none of these promises holds emptily.
+abbrev pub Served : Type 0
+Served =
+    (c : Settings) (input : List ℕ) (answers : ℕ → Bool) (a : At) → Run c input answers a → Within c input
+    → ((k : ℕ) → let refusal = offered (a .session) (a .window) (take k (a .rest)) .refusal in (refusal ≡ 0) ⊎ (refusal ≡ 3))
+    × (waiting (a .session) (a .window) ≡ NotAsked → ⊥)
+    × ((table : List ℕ) (hit : Bool) → waiting (a .session) (a .window) ≡ Line
+    → rowSize * (a .session .settings .before + 2) ≤ length table → answered (a .session) (a .window) table hit .refusal ≡ 0)
+    × (told (a .session) .refusal ≡ 0)
+    × ((recorded (a .session) .refusal ≡ 0) ⊎ (recorded (a .session) .refusal ≡ 7))
+    × ((b : At) × Steps answers a b × (Ends b ⊎ NoRoom b))
+
+-- # Memory
+
+-- Memory. Of two runs of one input and answers, in windows of any two lengths, the rows of one are a beginning of the rows of the
+-- other; and what finishes in a window can be carried to the same end in every longer one.
+abbrev pub Memory : Type 0
+Memory =
+    (c : Settings) (input : List ℕ) (answers : ℕ → Bool) (a b : At) → Run c input answers a → Run c input answers b
+    → (Begins (a .rows) (b .rows) ⊎ Begins (b .rows) (a .rows))
+    × (Within c input → Ends a → length (a .window) ≤ length (b .window)
+    → (b' : At) × Steps answers b b' × Ends b' × (b' .rows ≡ a .rows) × (recorded (b' .session) .end ≡ recorded (a .session) .end))
