@@ -228,7 +228,7 @@ pub opening-why : (c : Settings) (n : ℕ) → opening c n ≡ 0 → (allowed c 
 unfolding opening
 opening-why c n = go (allowed c) (ltb 0 n && leb n maxWindow) refl refl
   where
-    go : (b v : Bool) → allowed c ≡ b → (ltb 0 n && leb n maxWindow) ≡ v → cond b (cond v 0 2) 1 ≡ 0 → (allowed c ≡ true) × (0 < n) × (n ≤ maxWindow)
+    go : (b v : Bool) → allowed c ≡ b → (ltb 0 n && leb n maxWindow) ≡ v → _≡_ {A = ℕ} (cond b (cond v 0 2) 1) 0 → (allowed c ≡ true) × (0 < n) × (n ≤ maxWindow)
     go true true k h e =
         let both = and-eq-true-iff (ltb 0 n) (leb n maxWindow) .0 h in
         (k, ltb-true 0 n (both .0), leb-true n maxWindow (both .1))

@@ -3,4 +3,6 @@ pub mod Parts
 pub mod Agree
 pub mod Cases
 pub mod Keeps
+pub mod Invariant
+pub mod Taking
 pub mod Driven
