@@ -139,12 +139,13 @@ firstLength t xs = min (firstPlace t xs + 1) (length xs)
 pub lines-head : (t : ℕ) (xs : List ℕ) → 0 < length xs → lines t xs ≡ take (firstLength t xs) xs ∷ lines t (drop (firstLength t xs) xs)
 unfolding lines
 lines-head t xs h = elim (decLt (firstPlace t xs) (length xs)) [
-    yes k ↦
+  | yes k ↦
       let e : firstLength t xs ≡ firstPlace t xs + 1 = omega arith in
       rw e (lines-first t xs k)
   | no k ↦
       let e : firstLength t xs ≡ length xs = omega arith in
-      rw (e, take-length xs, drop-length xs) (lines-rest t xs h (omega arith)) ]
+      rw (e, take-length xs, drop-length xs) (lines-rest t xs h (omega arith))
+]
 
 -- It is known once its terminator is at hand, or once nothing more comes.
 pub lines-next : (t : ℕ) (xs ys : List ℕ) → (firstPlace t xs < length xs) ⊎ ((0 < length xs) × (ys ≡ []))
@@ -159,13 +160,14 @@ lines-next t xs ys (inr h) = rw (h .1, append-nil xs, append-nil (drop (firstLen
 pub handed-next : (t : ℕ) (xs : List ℕ) → handed t (take (firstLength t xs) xs) ≡ take (firstPlace t xs) xs
 unfolding handed
 handed-next t xs = elim (decLt (firstPlace t xs) (length xs)) [
-    yes k ↦
+  | yes k ↦
       let e : firstLength t xs ≡ firstPlace t xs + 1 = omega arith in
       rw e (handed-whole t xs k)
   | no k ↦
       let e : firstLength t xs ≡ length xs = omega arith in
       let p : firstPlace t xs ≡ length xs = omega (arith, first-le t xs) in
-      rw (e, p, take-length xs) (upTo-none t xs (omega arith)) ]
+      rw (e, p, take-length xs) (upTo-none t xs (omega arith))
+]
 
 -- # Whole lines
 
@@ -187,14 +189,10 @@ line-then t l ys e =
     let n : firstLength t l ≡ length l = omega arith in
     lines-next t l ys (inl (omega arith)) ∙ rw (n, take-length l, drop-length l)
 
-pub whole-line : (t : ℕ) (xs : List ℕ) → firstPlace t xs < length xs → Whole t (take (firstLength t xs) xs)
-unfolding lines firstPlace handed
-whole-line t xs h ys =
-    let l = take (firstLength t xs) xs in
-    let first : firstPlace t l ≡ length (take (firstPlace t xs) xs) = ap length (handed-next t xs) in
-    let e : firstPlace t l + 1 ≡ length l = omega (arith, first, length-take (firstPlace t xs) xs, length-take (firstLength t xs) xs) in
-    let alone : lines t l ≡ l ∷ [] = rw (append-nil l) at (line-then t l [] e) in
-    rw alone (line-then t l ys e)
+line-ends : (t : ℕ) (xs : List ℕ) → firstPlace t xs < length xs → firstPlace t (take (firstLength t xs) xs) + 1 ≡ length (take (firstLength t xs) xs)
+unfolding firstPlace handed
+line-ends t xs h =
+    omega (arith, ap length (handed-next t xs), length-take (firstPlace t xs) xs, length-take (firstLength t xs) xs)
 
 -- The lines from some line on are the lines of those bytes, ..
 pub lines-drop : (j t : ℕ) (xs : List ℕ) → lines t (flatten (drop j (lines t xs))) ≡ drop j (lines t xs)
@@ -205,10 +203,11 @@ lines-drop (suc j) t (x ∷ xs) = rw (lines-head t (x ∷ xs) (omega arith)) (li
 
 whole-rest : (t : ℕ) (xs : List ℕ) → Whole t xs → Whole t (drop (firstLength t xs) xs)
 whole-rest t xs h = elim (decLt (firstPlace t xs) (length xs)) [
-    yes k ↦ λ ys. tail-eq-of-cons-eq (sym (lines-next t xs ys (inl k)) ∙ h ys ∙ ap (λ ls. ls ++ lines t ys) (lines-head t xs (omega arith)))
+  | yes k ↦ λ ys. tail-eq-of-cons-eq (sym (lines-next t xs ys (inl k)) ∙ h ys ∙ ap (λ ls. ls ++ lines t ys) (lines-head t xs (omega arith)))
   | no k ↦
       let n : firstLength t xs ≡ length xs = omega arith in
-      rw (n, drop-length xs) (whole-none t) ]
+      rw (n, drop-length xs) (whole-none t)
+]
 
 -- .. whole where all of them are.
 pub whole-drop : (j t : ℕ) (xs : List ℕ) → Whole t xs → Whole t (flatten (drop j (lines t xs)))
@@ -217,3 +216,16 @@ whole-drop zero t xs h = rw (lines-whole t xs) h
 whole-drop (suc j) t [] h = whole-none t
 whole-drop (suc j) t (x ∷ xs) h =
     rw (lines-head t (x ∷ xs) (omega arith)) (whole-drop j t (drop (firstLength t (x ∷ xs)) (x ∷ xs)) (whole-rest t (x ∷ xs) h))
+
+-- The first line by itself is one line.
+pub lines-one : (t : ℕ) (xs : List ℕ) → 0 < length xs → lines t (take (firstLength t xs) xs) ≡ take (firstLength t xs) xs ∷ []
+unfolding lines
+lines-one t xs h = elim (decLt (firstPlace t xs) (length xs)) [
+  | yes k ↦ rw (append-nil (take (firstLength t xs) xs)) at (line-then t (take (firstLength t xs) xs) [] (line-ends t xs k))
+  | no k ↦
+      let e : firstLength t xs ≡ length xs = omega arith in
+      rw (e, take-length xs) (lines-rest t xs h (omega arith))
+]
+
+pub whole-line : (t : ℕ) (xs : List ℕ) → firstPlace t xs < length xs → Whole t (take (firstLength t xs) xs)
+whole-line t xs h ys = rw (lines-one t xs (omega arith)) (line-then t (take (firstLength t xs) xs) ys (line-ends t xs h))

@@ -55,14 +55,37 @@ agree-of s e =
       matched = leb-true (s .matches) (s .lines) (h .1 .1 .1 .1 .1 .1 .1 .1 .1 .0);
       limited = h .1 .1 .1 .1 .1 .1 .1 .1 .1 .1 .0;
       left-after = leb-true (s .left) (s .settings .after) (h .1 .1 .1 .1 .1 .1 .1 .1 .1 .1 .1 .0);
-      owed = h .1 .1 .1 .1 .1 .1 .1 .1 .1 .1 .1 .1 .0
+      owed = h .1 .1 .1 .1 .1 .1 .1 .1 .1 .1 .1 .1 .0;
     }
 
 pub agrees-of : (s : Session) → Agree s → agrees s ≡ true
 unfolding agrees tests takenBytes
 agrees-of s a =
-    all-every (tests s)
-    (a .set, (lt-ltb 0 (s .window) (a .some), (le-leb (s .window) maxWindow (a .most), (le-leb (s .floor) (s .next) (a .floor-next),
-    (le-leb (s .next) (s .end) (a .next-end), (le-leb (s .end) (s .window) (a .end-window), (le-leb (s .next - s .floor) (s .bytes) (a .back),
-    (le-leb (s .bytes + (s .end - s .next)) maxInput (a .size), (le-leb (s .lines) (s .bytes) (a .counted),
-    (le-leb (s .matches) (s .lines) (a .matched), (a .limited, (le-leb (s .left) (s .settings .after) (a .left-after), (a .owed, tt)))))))))))))
+    all-every (tests s) (
+      a .set,
+      (
+        lt-ltb 0 (s .window) (a .some),
+        (
+          le-leb (s .window) maxWindow (a .most),
+          (
+            le-leb (s .floor) (s .next) (a .floor-next),
+            (
+              le-leb (s .next) (s .end) (a .next-end),
+              (
+                le-leb (s .end) (s .window) (a .end-window),
+                (
+                  le-leb (s .next - s .floor) (s .bytes) (a .back),
+                  (
+                    le-leb (s .bytes + (s .end - s .next)) maxInput (a .size),
+                    (
+                      le-leb (s .lines) (s .bytes) (a .counted),
+                      (le-leb (s .matches) (s .lines) (a .matched), (a .limited, (le-leb (s .left) (s .settings .after) (a .left-after), (a .owed, tt)))),
+                    ),
+                  ),
+                ),
+              ),
+            ),
+          ),
+        ),
+      ),
+    )

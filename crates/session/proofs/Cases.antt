@@ -44,11 +44,11 @@ module _ (s : Session) (w piece : List ℕ) where
 
   offer-first : (b i q : Bool) → sound s (length w) ≡ b → idle s piece ≡ i → quitFront s piece ≡ q
       → OfferCase
-        (cond (not b) (OfferRefused 6)
-        (cond i Idle
-        (cond q (taking s w piece)
-        (cond (leb maxInput (takenBytes s)) (OfferRefused 5)
-        (cond (not (waits s w) && leb (s .window) (heldBytes s w)) (OfferRefused 3) (taking s w piece))))))
+      (cond (not b) (OfferRefused 6)
+      (cond i Idle
+      (cond q (taking s w piece)
+      (cond (leb maxInput (takenBytes s)) (OfferRefused 5)
+      (cond (not (waits s w) && leb (s .window) (heldBytes s w)) (OfferRefused 3) (taking s w piece))))))
   offer-first false i q e j k = unsound e
   offer-first true true q e j k = idling e j
   offer-first true false true e j k = quits e j k
@@ -71,7 +71,7 @@ module _ (s : Session) (w : List ℕ) (table : ℕ) (hit : Bool) where
   answer-first : (b v l f : Bool) → sound s (length w) ≡ b → waits s w ≡ v → belowOne s w hit ≡ l
       → ltb table (rowSize * length (answerRows s w hit)) ≡ f
       → AnswerCase
-        (cond (not b) (AnswerRefused 6) (cond (not v) (AnswerRefused 6) (cond l (AnswerRefused 6) (cond f (AnswerRefused 4) Give))))
+      (cond (not b) (AnswerRefused 6) (cond (not v) (AnswerRefused 6) (cond l (AnswerRefused 6) (cond f (AnswerRefused 4) Give))))
   answer-first false v l f e i j k = unsound e
   answer-first true false l f e i j k = none e i
   answer-first true true true f e i j k = below e i j

@@ -58,5 +58,11 @@ module _ (input : List ℕ) (answers : ℕ → Bool) (s : Session) (w rest : Lis
   pub taken-is : takenBytes s ≡ length (i .past)
   unfolding takenBytes
   taken-is =
-      omega (arith, i .uncut, ap length (i .text-is), length-append (flatten (i .gone)) (unanswered s w), i .bytes-is,
-        unanswered-length s w (i .agree) (i .window-is))
+      omega (
+        arith,
+        i .uncut,
+        ap length (i .text-is),
+        length-append (flatten (i .gone)) (unanswered s w),
+        i .bytes-is,
+        unanswered-length s w (i .agree) (i .window-is),
+      )

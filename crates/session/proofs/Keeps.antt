@@ -70,7 +70,7 @@ agree-stored s w piece n quit a r =
       matched = a .matched;
       limited = a .limited;
       left-after = a .left-after;
-      owed = rw next (owed-kept (s .left) (s .floor) (s .next) (keptBytes s w) (a .owed) (r .kept))
+      owed = rw next (owed-kept (s .left) (s .floor) (s .next) (keptBytes s w) (a .owed) (r .kept));
     }
 
 -- a call that sees a sound session
@@ -165,7 +165,7 @@ agree-stepped s t len row a h k bytes count matches limited left owed =
       matched = omega arith;
       limited = limited;
       left-after = left;
-      owed = owed-next row (t .afterLeft) (s .next + len) (s .floor) owed
+      owed = owed-next row (t .afterLeft) (s .next + len) (s .floor) owed;
     }
 
 -- the numbers of the definition's step, by what becomes of the line
@@ -182,14 +182,17 @@ agree-fate s w hit len _ (passes e l p) a h k =
 agree-fate s w hit len _ (skips e l p) a h k =
     agree-stepped s (stateNext norow (s .settings) (shown s w) len) len false a h k refl refl (omega arith) (a .limited) (a .left-after) (inr l)
 
-agree-answer-case : (s : Session) (w : List ℕ) (table : ℕ) (hit : Bool) (o : Answering) → AnswerCase s w table hit o → Agree s → Agree (answerAnswer o s w hit .session)
+pub agree-given : (s : Session) (w : List ℕ) (hit : Bool) → Agree s → waits s w ≡ true → Agree (answerSession s w hit)
 unfolding answerSession fateOf shown
+agree-given s w hit a v =
+    agree-fate s w hit (lineLength s w) _ (fate-case (s .settings) (selected (s .settings) (s .matches) hit) (s .left)) a (waiting-length s w v) (line-le s w)
+
+agree-answer-case : (s : Session) (w : List ℕ) (table : ℕ) (hit : Bool) (o : Answering) → AnswerCase s w table hit o → Agree s → Agree (answerAnswer o s w hit .session)
 agree-answer-case s w table hit _ (Cases.unsound e) a = a
 agree-answer-case s w table hit _ (none e v) a = a
 agree-answer-case s w table hit _ (below e v b) a = a
 agree-answer-case s w table hit _ (few e v b h) a = a
-agree-answer-case s w table hit _ (gives e v b h) a =
-    agree-fate s w hit (lineLength s w) _ (fate-case (s .settings) (selected (s .settings) (s .matches) hit) (s .left)) a (waiting-length s w v) (line-le s w)
+agree-answer-case s w table hit _ (gives e v b h) a = agree-given s w hit a v
 
 pub agree-answer : (s : Session) (w table : List ℕ) (hit : Bool) → Agree s → Agree (answered s w table hit .session)
 unfolding answered
@@ -213,7 +216,7 @@ agree-toldSession s a =
       matched = a .matched;
       limited = a .limited;
       left-after = a .left-after;
-      owed = a .owed
+      owed = a .owed;
     }
 
 pub agree-told : (s : Session) → Agree s → Agree (told s .session)
@@ -251,7 +254,7 @@ agree-fresh c n e =
       matched = omega arith;
       limited = within-none (c .limit);
       left-after = omega arith;
-      owed = refl
+      owed = refl;
     }
 
 pub served-fresh : (c : Settings) (n : ℕ) → opened c n .refusal ≡ 0 → opened c n .session ≡ fresh c n

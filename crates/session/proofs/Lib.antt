@@ -5,4 +5,5 @@ pub mod Cases
 pub mod Keeps
 pub mod Invariant
 pub mod Taking
+pub mod Giving
 pub mod Driven

@@ -72,8 +72,11 @@ flatten-last n t xs =
 pub kept-le : (s : Session) (w : List ℕ) → keptBytes s w ≤ s .next - s .floor
 unfolding keptBytes sinceLines
 kept-le s w =
-    omega (arith, flatten-last (keptLines (s .settings)) (s .settings .terminator) (part (s .floor) (s .next) w) .0,
-      length-take (s .next - s .floor) (drop (s .floor) w))
+    omega (
+      arith,
+      flatten-last (keptLines (s .settings)) (s .settings .terminator) (part (s .floor) (s .next) w) .0,
+      length-take (s .next - s .floor) (drop (s .floor) w),
+    )
 
 -- it is what the window holds before the first unanswered byte
 pub kept-part : (s : Session) (w : List ℕ) → s .floor ≤ s .next → s .next ≤ length w
@@ -122,7 +125,7 @@ backFrom-snoc o n (x ∷ ls) l =
     let more = length-append (flatten ls) (l ++ []) in
     let joined = ap length (flatten-append ls (l ∷ [])) in
     let offset : o + length l - length (x ++ flatten (ls ++ (l ∷ []))) ≡ o - length (x ++ flatten ls) =
-        omega (arith, bytes, more, joined, length-append x (flatten ls), length-append l [])
+    omega (arith, bytes, more, joined, length-append x (flatten ls), length-append l [])
     in
     let number : n + 1 - suc (length (ls ++ (l ∷ []))) ≡ n - suc (length ls) = omega (arith, length-append ls (l ∷ [])) in
     rw (offset, number, backFrom-snoc o n ls l)

@@ -54,7 +54,7 @@ quit-next Ignore t n m rest e h = absurd (omega arith)
 quit-next (Quit b) t n m rest e h =
     let piece = take m rest in
     let first : firstPlace b rest ≡ n =
-        ap (firstPlace b) (sym (take-append-drop m rest)) ∙ first-append b piece (drop m rest) (omega arith) ∙ sym e
+    ap (firstPlace b) (sym (take-append-drop m rest)) ∙ first-append b piece (drop m rest) (omega arith) ∙ sym e
     in
     let cut : upTo b (drop n rest) ≡ [] = rw first at (upTo-drop b rest) in
     (lt-ltb (length (upTo b (drop n rest))) (length (drop n rest)) (omega (arith, ap length cut, length-drop n rest, length-take m rest)), cut)
@@ -64,8 +64,9 @@ quit-next (Convert b) t n m rest e h = absurd (omega arith)
 
 shift : (a p n : ℕ) → ltb p n ≡ ltb (a + p) (a + n)
 shift a p n = elim (decLt p n) [
-    yes h ↦ lt-ltb p n h ∙ sym (lt-ltb (a + p) (a + n) (omega arith))
-  | no h ↦ le-ltb p n (omega arith) ∙ sym (le-ltb (a + p) (a + n) (omega arith)) ]
+  | yes h ↦ lt-ltb p n h ∙ sym (lt-ltb (a + p) (a + n) (omega arith))
+  | no h ↦ le-ltb p n (omega arith) ∙ sym (le-ltb (a + p) (a + n) (omega arith))
+]
 
 replaced-append : (k : Binary) (t : ℕ) (xs ys : List ℕ)
     → firstOf (replacedIn k t 0 xs) (replacedIn k t (length xs) ys) ≡ replacedIn k t 0 (xs ++ ys)
@@ -75,17 +76,21 @@ replaced-append (Convert b) t xs ys = go (eqb b t)
   where
     go : (same : Bool)
         → firstOf (cond (not same && ltb (firstPlace b xs) (length xs)) (At (0 + firstPlace b xs)) Nowhere)
-          (cond (not same && ltb (firstPlace b ys) (length ys)) (At (length xs + firstPlace b ys)) Nowhere)
-            ≡ cond (not same && ltb (firstPlace b (xs ++ ys)) (length (xs ++ ys))) (At (0 + firstPlace b (xs ++ ys))) Nowhere
+        (cond (not same && ltb (firstPlace b ys) (length ys)) (At (length xs + firstPlace b ys)) Nowhere)
+        ≡ cond (not same && ltb (firstPlace b (xs ++ ys)) (length (xs ++ ys))) (At (0 + firstPlace b (xs ++ ys))) Nowhere
     go true = refl
     go false = elim (decLt (firstPlace b xs) (length xs)) [
-        yes h ↦
-          rw (first-append b xs ys h, lt-ltb (firstPlace b xs) (length xs) h,
-            lt-ltb (firstPlace b xs) (length (xs ++ ys)) (omega (arith, length-append xs ys)))
+      | yes h ↦
+          rw (
+            first-append b xs ys h,
+            lt-ltb (firstPlace b xs) (length xs) h,
+            lt-ltb (firstPlace b xs) (length (xs ++ ys)) (omega (arith, length-append xs ys)),
+          )
       | no h ↦
           let z : 0 + (length xs + firstPlace b ys) ≡ length xs + firstPlace b ys = omega arith in
           rw (first-append-none b xs ys (omega arith), le-ltb (firstPlace b xs) (length xs) (omega arith), z, length-append xs ys)
-          (ap (λ v. cond v (At (length xs + firstPlace b ys)) Nowhere) (shift (length xs) (firstPlace b ys) (length ys))) ]
+          (ap (λ v. cond v (At (length xs + firstPlace b ys)) Nowhere) (shift (length xs) (firstPlace b ys) (length ys)))
+    ]
 
 -- # The window after taking
 
@@ -121,7 +126,7 @@ module _ (s : Session) (w piece : List ℕ) (n : ℕ) (a : Agree s) (r : Room s 
       let new = text (s .settings) (take n piece) in
       let tail = drop (s .end - keptFrom s w + n) w in
       let m : s .end - keptFrom s w + n - (s .next - keptFrom s w) ≡ length (old ++ new) =
-          omega (arith, from-le, a .next-end, length-append old new, unanswered-length s w a size, new-length)
+      omega (arith, from-le, a .next-end, length-append old new, unanswered-length s w a size, new-length)
       in
       rw (window-parts, drop-at kept (old ++ (new ++ tail)) (s .next - keptFrom s w) kept-length, m)
       (ap (λ xs. take (length (old ++ new)) xs) (sym (append-assoc old new tail)) ∙ take-at (old ++ new) tail (length (old ++ new)) refl)
@@ -138,8 +143,19 @@ module _ (s : Session) (w piece : List ℕ) (n : ℕ) (a : Agree s) (r : Room s 
       let new = text (s .settings) (take n piece) in
       let tail = drop (s .end - keptFrom s w + n) w in
       ap length window-parts
-      ∙ omega (arith, length-append kept (old ++ (new ++ tail)), length-append old (new ++ tail), length-append new tail,
-        kept-length, unanswered-length s w a size, new-length, length-drop (s .end - keptFrom s w + n) w, r, a, size)
+      ∙ omega (
+        arith,
+        length-append kept (old ++ (new ++ tail)),
+        length-append old (new ++ tail),
+        length-append new tail,
+        kept-length,
+        unanswered-length s w a size,
+        new-length,
+        length-drop (s .end - keptFrom s w + n) w,
+        r,
+        a,
+        size,
+      )
 
   -- the lines since the last row are the kept ones
   stored-since : (quit : Bool) → sinceLines (stored s w piece n quit) (storedWindow s w piece n) ≡ lastOf (keptLines (s .settings)) (sinceLines s w)
@@ -154,9 +170,9 @@ module _ (s : Session) (w piece : List ℕ) (n : ℕ) (a : Agree s) (r : Room s 
       let k = keptLines (s .settings) in
       let ls = sinceLines s w in
       let since : lastOf k (backFrom (s .bytes) (s .lines + 1) (lastOf k ls)) ≡ lastOf k (backFrom (s .bytes) (s .lines + 1) ls) =
-          backFrom-last k (s .bytes) (s .lines + 1) (lastOf k ls)
-          ∙ ap (λ xs. backFrom (s .bytes) (s .lines + 1) xs) (lastOf-lastOf k k ls (omega arith))
-          ∙ sym (backFrom-last k (s .bytes) (s .lines + 1) ls)
+      backFrom-last k (s .bytes) (s .lines + 1) (lastOf k ls)
+      ∙ ap (λ xs. backFrom (s .bytes) (s .lines + 1) xs) (lastOf-lastOf k k ls (omega arith))
+      ∙ sym (backFrom-last k (s .bytes) (s .lines + 1) ls)
       in
       rw (stored-since quit, since)
 
@@ -201,7 +217,7 @@ inv-taken input answers s w rest count given k n quit i r e =
     let cut = rest-text s n k rest (r .quit) in
     let now = stored-unanswered s w piece n (i .agree) r (i .window-is) quit in
     let joined : unanswered (stored s w piece n quit) (storedWindow s w piece n) ++ text c (drop n rest) ≡ old ++ text c rest =
-        ap (λ xs. xs ++ text c (drop n rest)) now ∙ append-assoc old new (text c (drop n rest)) ∙ ap (λ xs. old ++ xs) (cut .1)
+    ap (λ xs. xs ++ text c (drop n rest)) now ∙ append-assoc old new (text c (drop n rest)) ∙ ap (λ xs. old ++ xs) (cut .1)
     in
     let taken = taken-is input answers s w rest count given i in
     record {
@@ -221,7 +237,7 @@ inv-taken input answers s w rest count given k n quit i r e =
       whole = λ h. stored-whole s w piece n (i .agree) r (i .window-is) (i .whole (rw joined at h));
       fitted = i .fitted;
       replaced-is =
-        ap₂ (λ p m. firstOf p (replacedIn (c .binary) (c .terminator) m (take n piece))) (i .replaced-is) taken
-        ∙ replaced-append (c .binary) (c .terminator) (i .past) (take n piece);
-      input-now = input-after s n k rest quit e
+          ap₂ (λ p m. firstOf p (replacedIn (c .binary) (c .terminator) m (take n piece))) (i .replaced-is) taken
+          ∙ replaced-append (c .binary) (c .terminator) (i .past) (take n piece);
+      input-now = input-after s n k rest quit e;
     }
