@@ -6,8 +6,7 @@ use mathlib.Core.List.{List, [], _∷_, _++_, map, append-assoc}
 use native.Mathlib.Decide.{decLe}
 use native.Mathlib.Omega.{arith}
 use lib.Dec.{ltb}
-use lib.ListN.{length, drop, length-drop}
-use lib.Seq.{drop-drop, drop-length}
+use lib.ListN.{length, length-append, length-map}
 use borrow.Author.Tests.{ltb-false, lt-ltb, le-ltb}
 use Rattle.definition.specs.declared.Going.{Going}
 use Rattle.definition.specs.declared.Going.the-variants.{On, LimitMet, NonmatchMet}
@@ -63,7 +62,7 @@ rows-stopped c answers s (l ∷ ls) h =
 
 -- # B + 1 kept lines are enough
 
-before≤kept : (c : Settings) → c .before ≤ keptLines c
+pub before≤kept : (c : Settings) → c .before ≤ keptLines c
 unfolding keptLines contextual
 before≤kept c = go (ltb 0 (c .before)) refl
   where
@@ -153,3 +152,55 @@ kept-enough c answers s (l ∷ ls) =
     ∙ sym (trim-rows c answers kept ls)
     ∙ ap (λ (t : State). rows c answers t ls) (trim-stepState (s .going) c s len answer)
     ∙ trim-rows c answers (stepState (s .going) c s len answer) ls)
+
+-- # How many
+
+-- a line brings at most B + 2 rows
+breaks-most : (b : Bool) → length (cond b (break ∷ []) []) ≤ 1
+breaks-most true = omega arith
+breaks-most false = omega arith
+
+rowsFor-most : (f : Fate) (c : Settings) (s : State) (l : Line) → length (rowsFor f c s l) ≤ c .before + 2
+unfolding breaks
+rowsFor-most match c s l =
+    let befores = map (row beforeKind) (lastOf (c .before) (s .since)) in
+    let all = contextual c && s .given && ltb (c .before) (length (s .since)) in
+    omega (
+      arith,
+      breaks-most all,
+      length-append (cond all (break ∷ []) []) (befores ++ (row matchKind l ∷ [])),
+      length-append befores (row matchKind l ∷ []),
+      length-map (lastOf (c .before) (s .since)) (row beforeKind),
+      length-lastOf (c .before) (s .since),
+    )
+rowsFor-most after c s l = omega arith
+rowsFor-most other c s l = omega arith
+rowsFor-most norow c s l = omega arith
+
+pub stepRows-most : (g : Going) (c : Settings) (s : State) (len : ℕ) (answer : Bool) → length (stepRows g c s len answer) ≤ c .before + 2
+stepRows-most On c s len answer = rowsFor-most (fateOf c s answer) c s (nextLine s len)
+stepRows-most LimitMet c s len answer = omega arith
+stepRows-most NonmatchMet c s len answer = omega arith
+
+-- the lines since the last row are among the lines gone through
+since-next : (f : Fate) (c : Settings) (s : State) (len : ℕ) → length (s .since) ≤ s .lines → length (stateNext f c s len .since) ≤ s .lines + 1
+unfolding stateNext
+since-next match c s len h = omega arith
+since-next after c s len h = omega arith
+since-next other c s len h = omega arith
+since-next norow c s len h = omega (arith, length-append (s .since) (nextLine s len ∷ []))
+
+since-step : (g : Going) (c : Settings) (s : State) (len : ℕ) (answer : Bool) → length (s .since) ≤ s .lines
+    → length (stepState g c s len answer .since) ≤ stepState g c s len answer .lines
+unfolding stateNext
+since-step On c s len answer h = since-next (fateOf c s answer) c s len h
+since-step LimitMet c s len answer h = h
+since-step NonmatchMet c s len answer h = h
+
+pub since-counted : (c : Settings) (answers : ℕ → Bool) (s : State) (ls : List (List ℕ)) → length (s .since) ≤ s .lines
+    → length (state c answers s ls .since) ≤ state c answers s ls .lines
+unfolding state
+since-counted c answers s [] h = h
+since-counted c answers s (l ∷ ls) h =
+    since-counted c answers (stepState (s .going) c s (length l) (answers (s .lines + 1))) ls
+    (since-step (s .going) c s (length l) (answers (s .lines + 1)) h)

@@ -6,4 +6,5 @@ pub mod Keeps
 pub mod Invariant
 pub mod Taking
 pub mod Giving
+pub mod History
 pub mod Driven

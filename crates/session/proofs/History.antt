@@ -1,0 +1,279 @@
+-- The invariant holds at every moment of every run.
+use Prim.Native.Nat.{ℕ, zero, suc, _+_, _-_, _*_, _≤_, _<_, min}
+use mathlib.Core.Path.{_≡_, refl, sym, _∙_, ap, ap₂, subst}
+use mathlib.Core.Bool.{Bool, true, false, cond, not, _&&_, and-false, false≢true, true≢false}
+use mathlib.Core.List.{List, [], _∷_, _++_, append-nil, cons≢nil, flatten, map}
+use native.Mathlib.Omega.{arith}
+use lib.Dec.{ltb, eqb}
+use lib.ListN.{length, take, drop, length-map}
+use borrow.Author.Tests.{ltb-true, le-ltb}
+use Rattle.definition.specs.declared.Binary.{Binary}
+use Rattle.definition.specs.declared.Binary.the-variants.{Ignore, Quit, Convert}
+use Rattle.definition.specs.declared.Going.{Going}
+use Rattle.definition.specs.declared.Going.the-variants.{On, LimitMet, NonmatchMet}
+use Rattle.definition.specs.declared.Place.the-variants.{Nowhere}
+use Rattle.definition.specs.declared.Settings.{Settings}
+use Rattle.definition.specs.Definition.{Fate, match, after, other, norow, lastOf}
+use Rattle.definition.specs.Rows.{Row, flat, rowSize}
+use Rattle.definition.specs.State.{State, fateOf, keptLines, opened, rows, state, stepRows, trim}
+use Rattle.definition.specs.Text.{firstPlace, lines, text, upTo}
+use Rattle.definition.proofs.Kept.{before≤kept, since-counted, stepRows-most}
+use Rattle.definition.proofs.Lists.{length-lastOf}
+use Rattle.definition.proofs.Terminator.{whole-none}
+use Rattle.session.specs.declared.Answering.{Answering}
+use Rattle.session.specs.declared.Answering.the-variants.{AnswerRefused, Give}
+use Rattle.session.specs.declared.Input.{Input}
+use Rattle.session.specs.declared.Input.the-variants.{Open, Ended, QuitFound}
+use Rattle.session.specs.declared.Offering.{Offering}
+use Rattle.session.specs.declared.Offering.the-variants.{OfferRefused, Idle, Take}
+use Rattle.session.specs.declared.Session.{Session}
+use Rattle.session.specs.declared.Waiting.{Waiting}
+use Rattle.session.specs.declared.Waiting.the-variants.{Line, NoLine, NotAsked}
+use Rattle.session.specs.Calls as Calls
+use Rattle.session.specs.Calls.{answerAnswer, answerRows, answerSession, answerTable, answered, answeredTable, beforeRows, belowOne, answering, fitting, fresh, inputTold, offerAnswer, offerWindow, offered, offeredWindow, offering, opening, putRows, replacedIn, stepped, stored, taking, told, toldSession, waiting}
+use Rattle.session.specs.Held.{backFrom, part, shown, sinceLines, unanswered, waits}
+use Rattle.session.specs.Promises.{keptBefore}
+use Rattle.session.specs.Run.{At, Run, Steps, here, offer, answer, ask, tell, atStart, rowsIn}
+use Rattle.session.specs.Sound.{agrees, sound}
+use Rattle.session.proofs.Agree.{Agree, agrees-of}
+use Rattle.session.proofs.Cases.{OfferCase, unsound, idling, quits, sized, full, takes, offer-case, AnswerCase, few, gives, none, below, answer-case}
+use Rattle.session.proofs.Cases as Cases
+use Rattle.session.proofs.Giving.{inv-given, rowsIn-put, text-none}
+use Rattle.session.proofs.Invariant.{Inv, InputNow}
+use Rattle.session.proofs.Keeps.{agree-fresh, agree-toldSession, fitting-room, served-fresh}
+use Rattle.session.proofs.Taking.{inv-taken}
+
+-- # Opening
+
+opened-counted : (c : Settings) → length (opened c .since) ≤ opened c .lines
+unfolding opened
+opened-counted c = omega arith
+
+replaced-none : (k : Binary) (t : ℕ) → replacedIn k t 0 [] ≡ Nowhere
+unfolding firstPlace upTo
+replaced-none Ignore t = refl
+replaced-none (Quit b) t = refl
+replaced-none (Convert b) t = rw (and-false (not (eqb b t)))
+
+fitted-none : (P : List (List ℕ) → List ℕ → Type 0) (b : List (List ℕ)) (l : List ℕ) (m : List (List ℕ)) → [] ≡ b ++ (l ∷ m) → P b l
+fitted-none P [] l m e = absurd (cons≢nil (sym e))
+fitted-none P (x ∷ b) l m e = absurd (cons≢nil (sym e))
+
+inv-fresh : (input : List ℕ) (answers : ℕ → Bool) (c : Settings) (w : List ℕ) → opening c (length w) ≡ 0
+    → Inv input answers (fresh c (length w)) w input 0 []
+unfolding unanswered shown sinceLines backFrom trim opened state rows lines flatten
+inv-fresh input answers c w e =
+    record {
+      past = [];
+      gone = [];
+      agree = agree-fresh c (length w) e;
+      window-is = refl;
+      input-is = refl;
+      uncut = ap length (text-none c);
+      text-is = text-none c;
+      bytes-is = refl;
+      lines-is = refl;
+      count-is = refl;
+      state-is = refl;
+      rows-are = refl;
+      lines-are = refl;
+      whole = λ h. whole-none (c .terminator);
+      fitted = fitted-none (λ b l. keptBefore c answers b + length l ≤ length w);
+      replaced-is = sym (replaced-none (c .binary) (c .terminator));
+      input-now = tt;
+    }
+
+pub answerRows-most : (s : Session) (w : List ℕ) (hit : Bool) → length (answerRows s w hit) ≤ s .settings .before + 2
+unfolding answerRows
+answerRows-most s w hit = stepRows-most On (s .settings) (shown s w) _ hit
+
+rowsIn-table : (rs : List Row) (table : List ℕ) → rowsIn (length rs) (putRows rs table) ≡ rs
+unfolding putRows
+rowsIn-table rs table = rowsIn-put rs (drop (rowSize * length rs) table)
+
+-- a line is told to wait only where it does, to a sound session
+pub waiting-line : (s : Session) (w : List ℕ) → waiting s w ≡ Line → (sound s (length w) ≡ true) × (waits s w ≡ true)
+unfolding waiting
+waiting-line s w = go (sound s (length w)) (waits s w)
+  where
+    go : (b v : Bool) → cond b (cond v Line NoLine) NotAsked ≡ Line → (b ≡ true) × (v ≡ true)
+    go true true e = (refl, refl)
+    go true false e = let z : _≡_ {A = ℕ} 0 1 = cc in absurd (omega arith)
+    go false v e = let z : _≡_ {A = ℕ} 0 1 = cc in absurd (omega arith)
+
+module _ (input : List ℕ) (answers : ℕ → Bool) (s : Session) (w rest : List ℕ) (count : ℕ) (given : List Row)
+    (i : Inv input answers s w rest count given) where
+  -- # Offering
+
+  inv-offer-case : (k : ℕ) (o : Offering) → OfferCase s w (take k rest) o
+      → Inv input answers (offerAnswer o s w (take k rest) .session) (offerWindow o s w (take k rest)) (drop (offerAnswer o s w (take k rest) .taken) rest) count given
+  unfolding taking
+  inv-offer-case k _ (unsound e) = i
+  inv-offer-case k _ (idling e d) = i
+  inv-offer-case k _ (quits e d q) =
+      inv-taken input answers s w rest count given k (fitting s w (take k rest)) _ i (fitting-room s w (take k rest) (i .agree)) refl
+  inv-offer-case k _ (sized p h) = i
+  inv-offer-case k _ (full p h v f) = i
+  inv-offer-case k _ (takes p h v) =
+      inv-taken input answers s w rest count given k (fitting s w (take k rest)) _ i (fitting-room s w (take k rest) (i .agree)) refl
+
+  pub inv-offer : (k : ℕ)
+      → Inv input answers (offered s w (take k rest) .session) (offeredWindow s w (take k rest)) (drop (offered s w (take k rest) .taken) rest) count given
+  unfolding offered offeredWindow
+  inv-offer k = inv-offer-case k _ (offer-case s w (take k rest))
+
+  -- # Answering
+
+  -- no before row's number falls below 1
+  since-le : length (lastOf (s .settings .before) (shown s w .since)) ≤ s .lines
+  unfolding trim shown
+  since-le =
+      let c = s .settings in
+      let b = state c answers (opened c) (i .gone) in
+      let kept : length (lastOf (keptLines c) (shown s w .since)) ≡ length (lastOf (keptLines c) (b .since)) = ap (λ (t : State). length (t .since)) (i .state-is) in
+      let lines : s .lines ≡ b .lines = ap (λ (t : State). t .lines) (i .state-is) in
+      let counted = since-counted c answers (opened c) (i .gone) (opened-counted c) in
+      omega (arith, kept, lines, counted, before≤kept c, length-lastOf (c .before) (shown s w .since), length-lastOf (keptLines c) (shown s w .since), length-lastOf (keptLines c) (b .since))
+
+  before-le : (f : Fate) → beforeRows f (s .settings) (shown s w) ≤ s .lines
+  before-le match = since-le
+  before-le after = omega arith
+  before-le other = omega arith
+  before-le norow = omega arith
+
+  pub not-below : (hit : Bool) → belowOne s w hit ≡ false
+  unfolding belowOne
+  not-below hit = le-ltb (s .lines) (beforeRows (fateOf (s .settings) (shown s w) hit) (s .settings) (shown s w)) (before-le (fateOf (s .settings) (shown s w) hit))
+
+  inv-answer-case : (table : List ℕ) (o : Answering) → AnswerCase s w (length table) (answers (count + 1)) o → waits s w ≡ true → sound s (length w) ≡ true
+      → rowSize * (s .settings .before + 2) ≤ length table
+      → Inv input answers (answerAnswer o s w (answers (count + 1)) .session) w rest (count + 1)
+      (given ++ rowsIn (answerAnswer o s w (answers (count + 1)) .rows) (answerTable o s w table (answers (count + 1))))
+  inv-answer-case table _ (Cases.unsound e) v d r = absurd (true≢false (sym d ∙ e))
+  inv-answer-case table _ (none e u) v d r = absurd (true≢false (sym v ∙ u))
+  inv-answer-case table _ (below e u b) v d r = absurd (true≢false (sym b ∙ not-below (answers (count + 1))))
+  inv-answer-case table _ (few e u b h) v d r = absurd (omega (arith, h, r, answerRows-most s w (answers (count + 1))))
+  inv-answer-case table _ (gives e u b h) v d r =
+      subst (λ rs. Inv input answers (answerSession s w (answers (count + 1))) w rest (count + 1) (given ++ rs))
+      (sym (rowsIn-table (answerRows s w (answers (count + 1))) table))
+      (inv-given input answers s w rest count given i v)
+
+  pub inv-answer : (table : List ℕ) → waiting s w ≡ Line → rowSize * (s .settings .before + 2) ≤ length table
+      → Inv input answers (answered s w table (answers (count + 1)) .session) w rest (count + 1)
+      (given ++ rowsIn (answered s w table (answers (count + 1)) .rows) (answeredTable s w table (answers (count + 1))))
+  unfolding answered answeredTable
+  inv-answer table e r =
+      let why = waiting-line s w e in
+      inv-answer-case table _ (answer-case s w (length table) (answers (count + 1))) (why .1) (why .0) r
+
+  -- # Telling the end
+
+  told-now : (g : Going) (n : Input) → rest ≡ [] → InputNow (s .settings) n rest → InputNow (s .settings) (inputTold g n) rest
+  told-now On Open e h = e
+  told-now On Ended e h = h
+  told-now On QuitFound e h = h
+  told-now LimitMet n e h = h
+  told-now NonmatchMet n e h = h
+
+  inv-toldSession : rest ≡ [] → Inv input answers (toldSession s) w rest count given
+  unfolding toldSession unanswered shown sinceLines
+  inv-toldSession e =
+      record {
+        past = i .past;
+        gone = i .gone;
+        agree = agree-toldSession s (i .agree);
+        window-is = i .window-is;
+        input-is = i .input-is;
+        uncut = i .uncut;
+        text-is = i .text-is;
+        bytes-is = i .bytes-is;
+        lines-is = i .lines-is;
+        count-is = i .count-is;
+        state-is = i .state-is;
+        rows-are = i .rows-are;
+        lines-are = i .lines-are;
+        whole = i .whole;
+        fitted = i .fitted;
+        replaced-is = i .replaced-is;
+        input-now = told-now (s .going) (s .input) e (i .input-now);
+      }
+
+  pub inv-told : rest ≡ [] → Inv input answers (told s .session) w rest count given
+  unfolding told
+  inv-told e =
+      subst (λ b. Inv input answers (cond b (toldSession s) s) w rest count given) (sym (agrees-of s (i .agree))) (inv-toldSession e)
+
+-- # A run
+
+abbrev pub InvAt : List ℕ → (ℕ → Bool) → At → Type 0
+InvAt input answers a = Inv input answers (a .session) (a .window) (a .rest) (a .count) (a .rows)
+
+pub inv-steps : (input : List ℕ) (answers : ℕ → Bool) (from a : At) → InvAt input answers from → Steps answers from a → InvAt input answers a
+inv-steps input answers from _ i here = i
+inv-steps input answers from _ i (offer {a = b} k t) =
+    inv-offer input answers (b .session) (b .window) (b .rest) (b .count) (b .rows) (inv-steps input answers from b i t) k
+inv-steps input answers from _ i (answer {a = b} table e r t) =
+    inv-answer input answers (b .session) (b .window) (b .rest) (b .count) (b .rows) (inv-steps input answers from b i t) table e r
+inv-steps input answers from _ i (ask {a = b} t) = inv-steps input answers from b i t
+inv-steps input answers from _ i (tell {a = b} e t) =
+    inv-told input answers (b .session) (b .window) (b .rest) (b .count) (b .rows) (inv-steps input answers from b i t) e
+
+pub inv-run : (c : Settings) (input : List ℕ) (answers : ℕ → Bool) (a : At) → Run c input answers a → InvAt input answers a
+unfolding Calls.opened
+inv-run c input answers a r =
+    inv-steps input answers (atStart c (r .window) input) a
+    (subst (λ s. Inv input answers s (r .window) input 0 []) (sym (served-fresh c (length (r .window)) (r .served))) (inv-fresh input answers c (r .window) (r .served)))
+    (r .steps)
+
+pub join : (answers : ℕ → Bool) (from a b : At) → Steps answers from a → Steps answers a b → Steps answers from b
+join answers from a _ t here = t
+join answers from a _ t (offer {a = b} k u) = offer k (join answers from a b t u)
+join answers from a _ t (answer {a = b} table e r u) = answer table e r (join answers from a b t u)
+join answers from a _ t (ask {a = b} u) = ask (join answers from a b t u)
+join answers from a _ t (tell {a = b} e u) = tell e (join answers from a b t u)
+
+-- # Settings and window length stay
+
+offer-settings : (o : Offering) (s : Session) (w piece : List ℕ)
+    → (offerAnswer o s w piece .session .settings ≡ s .settings) × (offerAnswer o s w piece .session .window ≡ s .window)
+unfolding stored
+offer-settings (OfferRefused k) s w piece = (refl, refl)
+offer-settings Idle s w piece = (refl, refl)
+offer-settings (Take n q) s w piece = (refl, refl)
+
+answer-settings : (o : Answering) (s : Session) (w : List ℕ) (hit : Bool)
+    → (answerAnswer o s w hit .session .settings ≡ s .settings) × (answerAnswer o s w hit .session .window ≡ s .window)
+unfolding answerSession stepped
+answer-settings (AnswerRefused k) s w hit = (refl, refl)
+answer-settings Give s w hit = (refl, refl)
+
+told-settings : (b : Bool) (s : Session) → (cond b (toldSession s) s .settings ≡ s .settings) × (cond b (toldSession s) s .window ≡ s .window)
+unfolding toldSession
+told-settings true s = (refl, refl)
+told-settings false s = (refl, refl)
+
+pub steps-stay : (answers : ℕ → Bool) (from a : At) → Steps answers from a
+    → (a .session .settings ≡ from .session .settings) × (a .session .window ≡ from .session .window)
+unfolding offered answered told
+steps-stay answers from _ here = (refl, refl)
+steps-stay answers from _ (offer {a = b} k t) =
+    let h = steps-stay answers from b t in
+    let o = offer-settings (offering (b .session) (b .window) (take k (b .rest))) (b .session) (b .window) (take k (b .rest)) in
+    (o .0 ∙ h .0, o .1 ∙ h .1)
+steps-stay answers from _ (answer {a = b} table e r t) =
+    let h = steps-stay answers from b t in
+    let o = answer-settings (answering (b .session) (b .window) (length table) (answers (b .count + 1))) (b .session) (b .window) (answers (b .count + 1)) in
+    (o .0 ∙ h .0, o .1 ∙ h .1)
+steps-stay answers from _ (ask {a = b} t) = steps-stay answers from b t
+steps-stay answers from _ (tell {a = b} e t) =
+    let h = steps-stay answers from b t in
+    let o = told-settings (agrees (b .session)) (b .session) in
+    (o .0 ∙ h .0, o .1 ∙ h .1)
+
+pub run-settings : (c : Settings) (input : List ℕ) (answers : ℕ → Bool) (a : At) → Run c input answers a → a .session .settings ≡ c
+run-settings c input answers a r =
+    steps-stay answers (atStart c (r .window) input) a (r .steps) .0 ∙ ap (λ (s : Session). s .settings) (served-fresh c (length (r .window)) (r .served))
+
+-- a run carried on is a run
+pub run-on : (c : Settings) (input : List ℕ) (answers : ℕ → Bool) (a b : At) → Run c input answers a → Steps answers a b → Run c input answers b
+run-on c input answers a b r t = record { window = r .window; served = r .served; steps = join answers (atStart c (r .window) input) a b (r .steps) t }
