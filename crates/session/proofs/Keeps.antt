@@ -97,7 +97,7 @@ agree-offer s w piece a = agree-offer-case s w piece _ (offer-case s w piece) a
 
 -- # Answering
 
-is-on : (g : Going) → isOn g ≡ true → g ≡ On
+pub is-on : (g : Going) → isOn g ≡ true → g ≡ On
 is-on On e = refl
 is-on LimitMet e = absurd (false≢true e)
 is-on NonmatchMet e = absurd (false≢true e)

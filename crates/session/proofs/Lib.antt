@@ -7,4 +7,6 @@ pub mod Invariant
 pub mod Taking
 pub mod Giving
 pub mod History
+pub mod Finish
+pub mod Promises
 pub mod Driven
