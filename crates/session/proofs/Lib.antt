@@ -8,5 +8,6 @@ pub mod Taking
 pub mod Giving
 pub mod History
 pub mod Finish
+pub mod Carry
 pub mod Promises
 pub mod Driven

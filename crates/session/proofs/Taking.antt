@@ -186,7 +186,7 @@ module _ (s : Session) (w piece : List ℕ) (n : ℕ) (a : Agree s) (r : Room s 
 -- # The invariant
 
 -- the rest of the input, cut after the bytes taken
-rest-text : (s : Session) (n k : ℕ) (rest : List ℕ) → n ≤ beforeQuit s (take k rest)
+pub rest-text : (s : Session) (n k : ℕ) (rest : List ℕ) → n ≤ beforeQuit s (take k rest)
     → (take n (take k rest) ++ drop n rest ≡ rest) × (text (s .settings) (take n (take k rest)) ++ text (s .settings) (drop n rest) ≡ text (s .settings) rest)
 unfolding beforeQuit
 rest-text s n k rest h =

@@ -1,0 +1,308 @@
+-- Any run can be carried on until its end record is served or it is refused by 3: each turn ends it or makes what is left lighter.
+use Prim.Native.Nat.{ℕ, zero, suc, _+_, _-_, _*_, _≤_, _<_, min}
+use mathlib.Core.Path.{_≡_, refl, sym, _∙_, ap, ap₂, subst}
+use mathlib.Core.Bool.{Bool, true, false, cond, not, _&&_, _||_, and-false, and-eq-true-iff, true≢false}
+use mathlib.Core.List.{List, [], _∷_, _++_}
+use mathlib.Core.Logic.{_⊎_, inl, inr, ⊎-elim}
+use native.Mathlib.Decide.{decLe}
+use native.Mathlib.Omega.{arith}
+use lib.Dec.{ltb, leb, eqb}
+use lib.ListN.{length, take, drop, length-append, length-drop, length-replicate, length-take, replicate}
+use lib.Seq.{take-length}
+use borrow.Author.Tests.{eq-eqb, eqb-true, eqb-false, le-ltb, lt-ltb, ltb-false, ltb-true, ne-eqb}
+use Rattle.definition.specs.declared.Going.{Going}
+use Rattle.definition.specs.declared.Going.the-variants.{On, LimitMet, NonmatchMet}
+use Rattle.definition.specs.declared.Settings.{Settings}
+use Rattle.definition.specs.Bounds.{maxInput}
+use Rattle.definition.specs.Rows.{Row, rowSize}
+use Rattle.definition.specs.State.{stateNext}
+use Rattle.definition.specs.Text.{text}
+use Rattle.definition.proofs.Uncut.{text-append}
+use Rattle.session.specs.declared.Answering.{Answering}
+use Rattle.session.specs.declared.Input.{Input}
+use Rattle.session.specs.declared.Input.the-variants.{Open, Ended, QuitFound}
+use Rattle.session.specs.declared.Offering.{Offering}
+use Rattle.session.specs.declared.Session.{Session}
+use Rattle.session.specs.declared.Waiting.the-variants.{Line, NoLine, NotAsked}
+use Rattle.session.specs.Calls.{answerAnswer, answerSession, answered, beforeQuit, fitting, idle, inputTold, offerAnswer, offered, quitFront, recorded, recording, remains, stepped, stored, taking, told, toldSession, waiting}
+use Rattle.session.specs.Held.{heldBytes, isOn, isOpen, keptBytes, keptFrom, lineBytes, lineLength, shown, unanswered, waits}
+use Rattle.session.specs.Promises.{Ends, NoRoom, Within}
+use Rattle.session.specs.Run.{At, Steps, here, offer, answer, ask, tell, atAnswer, atEnd, atOffer}
+use Rattle.session.specs.Sound.{agrees, sound, takenBytes}
+use Rattle.session.proofs.Agree.{Agree, agrees-of}
+use Rattle.session.proofs.Cases.{OfferCase, unsound, idling, quits, sized, full, takes, offer-case, AnswerCase, few, gives, none, below, answer-case}
+use Rattle.session.proofs.Cases as Cases
+use Rattle.session.proofs.History.{InvAt, answerRows-most, inv-steps, join, not-below, steps-stay}
+use Rattle.session.proofs.Invariant.{Inv, taken-is, unanswered-length}
+use Rattle.session.proofs.Keeps.{is-on, line-le, waiting-length}
+use Rattle.session.proofs.Taking.{quit-le, rest-text, take-uncut}
+
+positive : (n : ℕ) → (n ≡ 0 → ⊥) → 0 < n
+positive zero h = absurd (h refl)
+positive (suc n) h = omega arith
+
+not-front : (b n : ℕ) → 0 < n → (eqb b 0 && ltb 0 n) ≡ false → 0 < b
+not-front b n h e = elim (decLe b 0) [
+  | yes k ↦
+      let z : b ≡ 0 = omega arith in
+      absurd (true≢false (sym (rw (eq-eqb b 0 z, lt-ltb 0 n h)) ∙ e))
+  | no k ↦ omega arith
+]
+
+-- a piece that is not idle has bytes, and finds the input open and the run going on
+pub not-idle : (s : Session) (piece : List ℕ) → idle s piece ≡ false → (0 < length piece) × (isOpen (s .input) ≡ true) × (s .going ≡ On)
+unfolding idle
+not-idle s piece = go (eqb (length piece) 0) (isOpen (s .input)) (isOn (s .going)) refl refl refl
+  where
+    go : (b o g : Bool) → eqb (length piece) 0 ≡ b → isOpen (s .input) ≡ o → isOn (s .going) ≡ g → (b || not o || not g) ≡ false
+        → (0 < length piece) × (isOpen (s .input) ≡ true) × (s .going ≡ On)
+    go true o g e i h k = absurd (true≢false k)
+    go false false g e i h k = absurd (true≢false k)
+    go false true false e i h k = absurd (true≢false k)
+    go false true true e i h k = (positive (length piece) (eqb-false (length piece) 0 e), i, is-on (s .going) h)
+
+-- how much is left to do
+abbrev openBit : Input → ℕ
+openBit Open = 1
+openBit Ended = 0
+openBit QuitFound = 0
+
+bit-most : (q : Bool) → openBit (cond q QuitFound Open) ≤ 1
+bit-most true = omega arith
+bit-most false = omega arith
+
+weight : Session → List ℕ → ℕ
+weight s rest = 2 * length rest + (s .end - s .next) + openBit (s .input)
+
+-- after an offer that takes a byte or finds the Quit byte less is left
+stored-falls : (s : Session) (w piece rest : List ℕ) → Agree s → s .input ≡ Open → (n : ℕ) (quit : Bool) → n ≤ length rest → (0 < n) ⊎ (quit ≡ true)
+    → weight (stored s w piece n quit) (drop n rest) < weight s rest
+unfolding weight stored keptFrom
+stored-falls s w piece rest a e n quit h (inl k) = omega (arith, length-drop n rest, bit-most quit, ap openBit e)
+stored-falls s w piece rest a e n quit h (inr k) = omega (arith, length-drop n rest, ap (λ q. openBit (cond q QuitFound Open)) k, ap openBit e)
+
+fitting-rest : (s : Session) (w : List ℕ) (k : ℕ) (rest : List ℕ) → fitting s w (take k rest) ≤ length rest
+unfolding fitting beforeQuit
+fitting-rest s w k rest = omega (arith, quit-le (s .settings .binary) (take k rest), length-take k rest)
+
+fitting-some : (s : Session) (w piece : List ℕ) → 0 < beforeQuit s piece → heldBytes s w < s .window → takenBytes s < maxInput → 0 < fitting s w piece
+unfolding fitting
+fitting-some s w piece h k m = omega arith
+
+-- a Quit byte at the front is found
+front-quits : (s : Session) (w piece : List ℕ) → quitFront s piece ≡ true
+    → (eqb (fitting s w piece) (beforeQuit s piece) && ltb (fitting s w piece) (length piece)) ≡ true
+unfolding quitFront fitting
+front-quits s w piece e =
+    let both = and-eq-true-iff (eqb (beforeQuit s piece) 0) (ltb 0 (length piece)) .0 e in
+    let front = eqb-true (beforeQuit s piece) 0 (both .0) in
+    and-eq-true-iff _ _ .1
+    (eq-eqb _ (beforeQuit s piece) (omega arith), lt-ltb _ (length piece) (omega (arith, ltb-true 0 (length piece) (both .1))))
+
+or-right : (a b : Bool) → (a || b) ≡ false → b ≡ false
+or-right true b e = absurd (true≢false e)
+or-right false b e = e
+
+is-open : (n : Input) → isOpen n ≡ true → n ≡ Open
+is-open Open e = refl
+is-open Ended e = absurd (true≢false (sym e))
+is-open QuitFound e = absurd (true≢false (sym e))
+
+stopped-ends : (s : Session) → isOn (s .going) ≡ false → remains s ≡ false
+unfolding remains
+stopped-ends s e = rw e
+
+held-ends : (s : Session) → isOpen (s .input) ≡ false → s .end ≤ s .next → remains s ≡ false
+unfolding remains
+held-ends s o h = rw (o, le-ltb (s .next) (s .end) h) (and-false (isOn (s .going)))
+
+busy : (s : Session) (piece : List ℕ) → 0 < length piece → s .input ≡ Open → s .going ≡ On → idle s piece ≡ false
+unfolding idle
+busy s piece h e g = rw (ne-eqb (length piece) 0 (λ z. omega arith), ap isOpen e, ap isOn g)
+
+module _ (input : List ℕ) (answers : ℕ → Bool) (s : Session) (w rest : List ℕ) (count : ℕ) (given : List Row)
+    (i : Inv input answers s w rest count given) where
+  pub sound-now : sound s (length w) ≡ true
+  unfolding sound
+  sound-now = rw (agrees-of s (i .agree), eq-eqb (length w) (s .window) (i .window-is))
+
+  -- a piece with bytes that no Quit byte leads has a byte of the text
+  pub more-text : (k : ℕ) → 0 < length (take k rest) → quitFront s (take k rest) ≡ false
+      → (0 < beforeQuit s (take k rest)) × (0 < length (text (s .settings) rest))
+  unfolding quitFront
+  more-text k h q =
+      let piece = take k rest in
+      let c = s .settings in
+      let front = not-front (beforeQuit s piece) (length piece) h q in
+      let parts = rest-text s 1 k rest front in (
+        front,
+        omega (arith, ap length (parts .1), length-append (text c (take 1 piece)) (text c (drop 1 rest)), take-uncut s 1 piece front, length-take 1 piece),
+      )
+
+  -- within the size, bytes of the text that are left can be taken
+  pub size-left : Within (s .settings) input → 0 < length (text (s .settings) rest) → takenBytes s < maxInput
+  size-left h k =
+      let c = s .settings in
+      omega (
+        arith,
+        h,
+        k,
+        taken-is input answers s w rest count given i,
+        i .uncut,
+        ap (λ xs. length (text c xs)) (i .input-is),
+        ap length (text-append c (i .past) rest (i .uncut)),
+        length-append (text c (i .past)) (text c rest),
+      )
+
+  -- # What is served
+
+  pub offer-served : Within (s .settings) input → (k : ℕ) (o : Offering) → OfferCase s w (take k rest) o
+      → (offerAnswer o s w (take k rest) .refusal ≡ 0) ⊎ (offerAnswer o s w (take k rest) .refusal ≡ 3)
+  unfolding taking
+  offer-served h k _ (unsound e) = absurd (true≢false (sym sound-now ∙ e))
+  offer-served h k _ (idling e d) = inl refl
+  offer-served h k _ (quits e d q) = inl refl
+  offer-served h k _ (sized p m) =
+      absurd (omega (arith, m, size-left h (more-text k (not-idle s (take k rest) (p .1) .0) (p .2) .1)))
+  offer-served h k _ (full p m v f) = inr refl
+  offer-served h k _ (takes p m v) = inl refl
+
+  pub answer-served : (table : ℕ) (hit : Bool) (o : Answering) → AnswerCase s w table hit o → waits s w ≡ true
+      → rowSize * (s .settings .before + 2) ≤ table → answerAnswer o s w hit .refusal ≡ 0
+  answer-served table hit _ (Cases.unsound e) v r = absurd (true≢false (sym sound-now ∙ e))
+  answer-served table hit _ (none e u) v r = absurd (true≢false (sym v ∙ u))
+  answer-served table hit _ (below e u b) v r = absurd (true≢false (sym b ∙ not-below input answers s w rest count given i hit))
+  answer-served table hit _ (few e u b h) v r = absurd (omega (arith, h, r, answerRows-most s w hit))
+  answer-served table hit _ (gives e u b h) v r = refl
+
+  pub told-served : told s .refusal ≡ 0
+  unfolding told
+  told-served = rw (agrees-of s (i .agree))
+
+  pub record-served : (recorded s .refusal ≡ 0) ⊎ (recorded s .refusal ≡ 7)
+  unfolding recorded recording
+  record-served = rw (agrees-of s (i .agree)) (go (remains s))
+    where
+      go : (b : Bool) → (_≡_ {A = ℕ} (cond b 7 0) 0) ⊎ (_≡_ {A = ℕ} (cond b 7 0) 7)
+      go true = inr refl
+      go false = inl refl
+
+  pub ends-now : remains s ≡ false → recorded s .refusal ≡ 0
+  unfolding recorded recording
+  ends-now e = rw (agrees-of s (i .agree), e)
+
+  pub waiting-now : waits s w ≡ true → waiting s w ≡ Line
+  unfolding waiting
+  waiting-now v = rw (sound-now, v)
+
+  -- # What is left gets lighter
+
+  offer-falls : Within (s .settings) input → waits s w ≡ false → s .input ≡ Open → s .going ≡ On → 0 < length rest
+      → (k : ℕ) → k ≡ length rest → (o : Offering) → OfferCase s w (take k rest) o
+      → (offerAnswer o s w (take k rest) .refusal ≡ 3)
+      ⊎ (weight (offerAnswer o s w (take k rest) .session) (drop (offerAnswer o s w (take k rest) .taken) rest) < weight s rest)
+  unfolding taking
+  offer-falls h v n g l k z _ (unsound e) = absurd (true≢false (sym sound-now ∙ e))
+  offer-falls h v n g l k z _ (idling e d) = absurd (true≢false (sym d ∙ busy s (take k rest) (omega (arith, length-take k rest)) n g))
+  offer-falls h v n g l k z _ (quits e d q) =
+      inr (stored-falls s w (take k rest) rest (i .agree) n (fitting s w (take k rest)) _ (fitting-rest s w k rest)
+      (inr (front-quits s w (take k rest) q)))
+  offer-falls h v n g l k z _ (sized p m) =
+      absurd (omega (arith, m, size-left h (more-text k (not-idle s (take k rest) (p .1) .0) (p .2) .1)))
+  offer-falls h v n g l k z _ (full p m u f) = inl refl
+  offer-falls h v n g l k z _ (takes p m r) =
+      let room : heldBytes s w < s .window = ⊎-elim (λ t. absurd (true≢false (sym t ∙ v))) (λ t. t) r in
+      let front = more-text k (not-idle s (take k rest) (p .1) .0) (p .2) .0 in
+      inr (stored-falls s w (take k rest) rest (i .agree) n (fitting s w (take k rest)) _ (fitting-rest s w k rest)
+      (inl (fitting-some s w (take k rest) front room m)))
+
+  answer-falls : (table : ℕ) (hit : Bool) (o : Answering) → AnswerCase s w table hit o → waits s w ≡ true
+      → rowSize * (s .settings .before + 2) ≤ table → weight (answerAnswer o s w hit .session) rest < weight s rest
+  unfolding weight answerSession stepped
+  answer-falls table hit _ (Cases.unsound e) v r = absurd (true≢false (sym sound-now ∙ e))
+  answer-falls table hit _ (none e u) v r = absurd (true≢false (sym v ∙ u))
+  answer-falls table hit _ (below e u b) v r = absurd (true≢false (sym b ∙ not-below input answers s w rest count given i hit))
+  answer-falls table hit _ (few e u b h) v r = absurd (omega (arith, h, r, answerRows-most s w hit))
+  answer-falls table hit _ (gives e u b h) v r = omega (arith, waiting-length s w v, line-le s w)
+
+  toldSession-falls : s .input ≡ Open → s .going ≡ On → weight (toldSession s) rest < weight s rest
+  unfolding weight toldSession
+  toldSession-falls e g = omega (arith, ap₂ (λ k n. openBit (inputTold k n)) g e, ap openBit e)
+
+  told-falls : s .input ≡ Open → s .going ≡ On → weight (told s .session) rest < weight s rest
+  unfolding told
+  told-falls e g = rw (agrees-of s (i .agree)) (toldSession-falls e g)
+
+  -- once the input is no longer open, a run that goes on with no line waiting holds nothing unanswered
+  nothing-held : waits s w ≡ false → isOn (s .going) ≡ true → isOpen (s .input) ≡ false → s .end ≤ s .next
+  unfolding waits
+  nothing-held v g o =
+      let n = length (unanswered s w) in
+      let e : (ltb (lineBytes s w) n || ltb 0 n) ≡ false = rw (g, o) at v in
+      omega (arith, ltb-false 0 n (or-right (ltb (lineBytes s w) n) (ltb 0 n) e), unanswered-length s w (i .agree) (i .window-is))
+
+-- # A turn
+
+abbrev Lighter : (ℕ → Bool) → At → Type 0
+Lighter answers a = (b : At) × Steps answers a b × (weight (b .session) (b .rest) < weight (a .session) (a .rest))
+
+module _ (input : List ℕ) (answers : ℕ → Bool) (a : At) (i : InvAt input answers a) (h : Within (a .session .settings) input) where
+  answer-turn : waits (a .session) (a .window) ≡ true → Lighter answers a
+  unfolding answered
+  answer-turn v =
+      let s = a .session in
+      let w = a .window in
+      let table : List ℕ = replicate (rowSize * (s .settings .before + 2)) 0 in
+      let size = length-replicate {A = ℕ} (rowSize * (s .settings .before + 2)) 0 in (
+        atAnswer answers table a,
+        answer table (waiting-now input answers s w (a .rest) (a .count) (a .rows) i v) (omega (arith, size)) here,
+        answer-falls input answers s w (a .rest) (a .count) (a .rows) i (length table) (answers (a .count + 1)) _
+            (answer-case s w (length table) (answers (a .count + 1))) v (omega (arith, size)),
+      )
+
+  offer-turn : waits (a .session) (a .window) ≡ false → a .session .input ≡ Open → a .session .going ≡ On → 0 < length (a .rest) → NoRoom a ⊎ Lighter answers a
+  unfolding offered
+  offer-turn v n g l =
+      let s = a .session in
+      let w = a .window in
+      let k = length (a .rest) in
+      ⊎-elim (λ e. inl (k, e)) (λ e. inr (atOffer k a, offer k here, e))
+      (offer-falls input answers s w (a .rest) (a .count) (a .rows) i h v n g l k refl _ (offer-case s w (take k (a .rest))))
+
+  tell-turn : a .session .input ≡ Open → a .session .going ≡ On → a .rest ≡ [] → Lighter answers a
+  tell-turn n g e = (atEnd a, tell e here, told-falls input answers (a .session) (a .window) (a .rest) (a .count) (a .rows) i n g)
+
+  turn : Ends a ⊎ (NoRoom a ⊎ Lighter answers a)
+  turn = go (waits (a .session) (a .window)) refl (isOn (a .session .going)) refl (isOpen (a .session .input)) refl (a .rest) refl
+    where
+      go : (v : Bool) → waits (a .session) (a .window) ≡ v → (g : Bool) → isOn (a .session .going) ≡ g → (o : Bool) → isOpen (a .session .input) ≡ o
+          → (xs : List ℕ) → a .rest ≡ xs → Ends a ⊎ (NoRoom a ⊎ Lighter answers a)
+      go true v g e o k xs r = inr (inr (answer-turn v))
+      go false v false e o k xs r = inl (ends-now input answers (a .session) (a .window) (a .rest) (a .count) (a .rows) i (stopped-ends (a .session) e))
+      go false v true e false k xs r =
+          inl (ends-now input answers (a .session) (a .window) (a .rest) (a .count) (a .rows) i
+          (held-ends (a .session) k (nothing-held input answers (a .session) (a .window) (a .rest) (a .count) (a .rows) i v e k)))
+      go false v true e true k [] r = inr (inr (tell-turn (is-open (a .session .input) k) (is-on (a .session .going) e) r))
+      go false v true e true k (x ∷ xs) r =
+          inr (offer-turn v (is-open (a .session .input) k) (is-on (a .session .going) e) (omega (arith, ap length r)))
+
+-- # Turn after turn
+
+carry : (fuel : ℕ) (input : List ℕ) (answers : ℕ → Bool) (a : At) → InvAt input answers a → Within (a .session .settings) input
+    → weight (a .session) (a .rest) ≤ fuel → (b : At) × Steps answers a b × (Ends b ⊎ NoRoom b)
+carry zero input answers a i h l =
+    ⊎-elim (λ e. (a, here, inl e)) (λ r. ⊎-elim (λ e. (a, here, inr e)) (λ t. absurd (omega (arith, t .2))) r) (turn input answers a i h)
+carry (suc fuel) input answers a i h l =
+    ⊎-elim (λ e. (a, here, inl e))
+    (λ r. ⊎-elim (λ e. (a, here, inr e))
+    (λ t.
+    let b = t .0 in
+    let same = steps-stay answers a b (t .1) .0 in
+    let rest = carry fuel input answers b (inv-steps input answers a b i (t .1)) (subst (λ c. Within c input) (sym same) h) (omega (arith, t .2)) in
+    (rest .0, join answers a b (rest .0) (t .1) (rest .1), rest .2))
+    r)
+    (turn input answers a i h)
+
+pub carried : (input : List ℕ) (answers : ℕ → Bool) (a : At) → InvAt input answers a → Within (a .session .settings) input
+    → (b : At) × Steps answers a b × (Ends b ⊎ NoRoom b)
+carried input answers a i h = carry (weight (a .session) (a .rest)) input answers a i h (omega arith)
