@@ -179,14 +179,14 @@ module _ (input : List ℕ) (answers : ℕ → Bool) (s : Session) (w rest : Lis
       subst (λ (x : List ℕ). recordOf s ≡ endRecord (s .settings) x (s .bytes) (s .lines) (s .matches) (s .going)) (sym (i .input-is)) (same-done d)
 
   -- the lines still to come
-  abbrev later : List (List ℕ)
+  abbrev pub later : List (List ℕ)
   later = lines (s .settings .terminator) (unanswered s w ++ text (s .settings) rest)
 
   abbrev before : State
   before = state (s .settings) answers (opened (s .settings)) (i .gone)
 
   -- at the end no line is left, or the walk has stopped
-  nothing-left : isOpen (s .input) ≡ false → s .end ≤ s .next → later ≡ []
+  pub nothing-left : isOpen (s .input) ≡ false → s .end ≤ s .next → later ≡ []
   unfolding lines
   nothing-left o l =
       rw (

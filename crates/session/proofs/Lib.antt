@@ -9,5 +9,6 @@ pub mod Giving
 pub mod History
 pub mod Finish
 pub mod Carry
+pub mod Room
 pub mod Promises
 pub mod Driven

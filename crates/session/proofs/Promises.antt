@@ -4,6 +4,7 @@ use mathlib.Core.Path.{_≡_, refl, sym, _∙_, ap, ap₂, subst}
 use mathlib.Core.Bool.{Bool, true, false, cond}
 use mathlib.Core.List.{List, [], _∷_, _++_, append-assoc, append-nil}
 use mathlib.Core.Logic.{_⊎_, inl, inr, ⊎-elim}
+use native.Mathlib.Decide.{decLe}
 use native.Mathlib.Omega.{arith}
 use lib.ListN.{length, take, drop, length-take}
 use lib.Seq.{take-take}
@@ -17,15 +18,19 @@ use Rattle.definition.proofs.Kept.{rows-append}
 use Rattle.definition.proofs.Same.{same-end, same-rows}
 use Rattle.definition.proofs.Terminator.{first-le, handed-next}
 use Rattle.session.specs.declared.Session.{Session}
-use Rattle.session.specs.declared.Waiting.the-variants.{Line}
-use Rattle.session.specs.Calls.{recorded, recordOf, shownLine, waiting}
+use Rattle.session.specs.declared.Waiting.the-variants.{Line, NoLine, NotAsked}
+use Rattle.session.specs.Calls.{answered, offered, recorded, shownLine, waiting}
 use Rattle.session.specs.Held.{lineBytes, lineLength, part, shown, unanswered, waits}
-use Rattle.session.specs.Promises.{Begins, Beginning, Cut, Ends, Finished, Handed}
+use Rattle.session.specs.Promises.{Begins, Beginning, Cut, Ends, Finished, Handed, Memory, NoRoom, Room, Served, TooLong, Within}
 use Rattle.session.specs.Run.{At, Run, Steps}
+use Rattle.session.specs.Sound.{sound}
+use Rattle.session.proofs.Carry.{answer-served, carried, offer-served, record-served, sound-now, told-served}
+use Rattle.session.proofs.Cases.{answer-case, offer-case}
 use Rattle.session.proofs.Finish.{record-same, rows-done, served-done, served-record, state-done}
 use Rattle.session.proofs.Giving.{line, lines-now}
-use Rattle.session.proofs.History.{InvAt, inv-run, run-settings, waiting-line}
+use Rattle.session.proofs.History.{InvAt, inv-run, run-on, run-settings, steps-stay, waiting-line}
 use Rattle.session.proofs.Invariant.{Inv}
+use Rattle.session.proofs.Room.{cut-shorter, not-ended, not-past, same-count, too-long}
 
 -- the part shown is the waiting line without its terminator
 shown-handed : (s : Session) (w : List ℕ) → waiting s w ≡ Line → shownLine s w ≡ handed (s .settings .terminator) (line s w)
@@ -105,3 +110,108 @@ handed-line c input answers a r e =
     × (length before ≡ a .count)
     × (shownLine (a .session) (a .window) ≡ handed (x .terminator) l)) (run-settings c input answers a r)
     (handed-inv input answers (a .session) (a .window) (a .rest) (a .count) (a .rows) i e)
+
+-- # Carried on
+
+module _ (c : Settings) (input : List ℕ) (answers : ℕ → Bool) (a : At) (r : Run c input answers a) (h : Within c input) where
+  carried-run : (b : At) × Run c input answers b × Steps answers a b × (length (b .window) ≡ length (a .window)) × (Ends b ⊎ NoRoom b)
+  carried-run =
+      let i = inv-run c input answers a r in
+      let t = carried input answers a i (subst (λ x. Within x input) (sym (run-settings c input answers a r)) h) in
+      let q = run-on c input answers a (t .0) r (t .1) in
+      let j = inv-run c input answers (t .0) q in
+      (t .0, q, t .1, j .window-is ∙ steps-stay answers a (t .0) (t .1) .1 ∙ sym (i .window-is), t .2)
+
+-- the facts of the room rule, for the settings that a run was opened with
+module _ (c : Settings) (input : List ℕ) (answers : ℕ → Bool) (a : At) (r : Run c input answers a) where
+  run-too-long : NoRoom a → (t : TooLong c input answers (length (a .window)) (a .count)) × (a .rows ≡ rows c answers (opened c) (t .before))
+  run-too-long n =
+      let i = inv-run c input answers a r in
+      subst (λ x. (t : TooLong x input answers (length (a .window)) (a .count)) × (a .rows ≡ rows x answers (opened x) (t .before)))
+      (run-settings c input answers a r)
+      (too-long input answers (a .session) (a .window) (a .rest) (a .count) (a .rows) i (n .0) (n .1))
+
+  run-not-past : (n count : ℕ) → length (a .window) ≤ n → TooLong c input answers n count → a .count ≤ count
+  run-not-past n count h t =
+      let i = inv-run c input answers a r in
+      not-past input answers (a .session) (a .window) (a .rest) (a .count) (a .rows) i n count (omega (arith, h, i .window-is))
+      (subst (λ x. TooLong x input answers n count) (sym (run-settings c input answers a r)) t)
+
+  run-not-ended : (n count : ℕ) → length (a .window) ≤ n → TooLong c input answers n count → Ends a → ⊥
+  run-not-ended n count h t e =
+      let i = inv-run c input answers a r in
+      not-ended input answers (a .session) (a .window) (a .rest) (a .count) (a .rows) i n count (omega (arith, h, i .window-is))
+      (subst (λ x. TooLong x input answers n count) (sym (run-settings c input answers a r)) t) (served-done (a .session) e)
+
+pub room : Room
+room c input answers a r = (run-too-long c input answers a r, λ h count t. (run-not-past c input answers a r _ count (omega arith) t, refused h count t))
+  where
+    refused : Within c input → (count : ℕ) → TooLong c input answers (length (a .window)) count → (b : At) × Steps answers a b × NoRoom b × (b .count ≡ count)
+    refused h count t =
+        let x = carried-run c input answers a r h in
+        let b = x .0 in
+        let q = x .1 in
+        let size = x .3 in
+        ⊎-elim (λ e. absurd (run-not-ended c input answers b q (length (a .window)) count (omega (arith, size)) t e))
+        (λ n.
+        let u = subst (λ m. TooLong c input answers m (b .count)) size (run-too-long c input answers b q n .0) in (
+          b,
+          x .2,
+          n,
+          omega (
+            arith,
+            same-count c input answers (length (a .window)) (b .count) count u t,
+            same-count c input answers (length (a .window)) count (b .count) t u,
+          ),
+        ))
+        (x .4)
+
+asked : (s : Session) (w : List ℕ) → sound s (length w) ≡ true → waiting s w ≡ NotAsked → ⊥
+unfolding waiting
+asked s w e = rw e (go (waits s w))
+  where
+    go : (b : Bool) → cond b Line NoLine ≡ NotAsked → ⊥
+    go true k = let z : _≡_ {A = ℕ} 0 1 = cc in omega arith
+    go false k = let z : _≡_ {A = ℕ} 0 1 = cc in omega arith
+
+pub served : Served
+unfolding offered answered
+served c input answers a r h =
+    let s = a .session in
+    let w = a .window in
+    let i = inv-run c input answers a r in
+    let within = subst (λ x. Within x input) (sym (run-settings c input answers a r)) h in
+    record {
+      offers = λ k. offer-served input answers s w (a .rest) (a .count) (a .rows) i within k _ (offer-case s w (take k (a .rest)));
+      asks = asked s w (sound-now input answers s w (a .rest) (a .count) (a .rows) i);
+      answering = λ table hit e room.
+          answer-served input answers s w (a .rest) (a .count) (a .rows) i (length table) hit _ (answer-case s w (length table) hit)
+          (waiting-line s w e .1) room;
+      tells = told-served input answers s w (a .rest) (a .count) (a .rows) i;
+      records = record-served input answers s w (a .rest) (a .count) (a .rows) i;
+      carries = carried input answers a i within;
+    }
+
+-- of two beginnings of one list one is a beginning of the other
+begins-both : (xs ys zs : List Row) → Begins xs zs → Begins ys zs → Begins xs ys ⊎ Begins ys xs
+begins-both xs ys zs p q = elim (decLe (length xs) (length ys)) [
+  | yes k ↦
+      let m = cut-shorter xs (p .0) ys (q .0) (p .1 ∙ sym (q .1)) k in
+      inl (m .0, sym (m .1))
+  | no k ↦
+      let m = cut-shorter ys (q .0) xs (p .0) (q .1 ∙ sym (p .1)) (omega arith) in
+      inr (m .0, sym (m .1))
+]
+
+pub memory : Memory
+memory c input answers a b r q =
+    (begins-both (a .rows) (b .rows) (rowsOf c input answers) (beginning c input answers a r) (beginning c input answers b q), longer)
+  where
+    longer : Within c input → Ends a → length (a .window) ≤ length (b .window)
+        → (x : At) × Steps answers b x × Ends x × (x .rows ≡ a .rows) × (recorded (x .session) .end ≡ recorded (a .session) .end)
+    longer h e l =
+        let t = carried-run c input answers b q h in
+        let x = t .0 in
+        ⊎-elim (λ f. let same = cut c input answers x a (t .1) r f e in (x, t .2, f, same .0, same .1))
+        (λ n. absurd (run-not-ended c input answers a r (length (x .window)) (x .count) (omega (arith, l, t .3)) (run-too-long c input answers x (t .1) n .0) e))
+        (t .4)

@@ -98,18 +98,27 @@ Room =
 
 -- # Served
 
--- Served. The caller of demand 3 meets no refusal but 3, and 7 where it asks for the end record too early; and any run can be carried
--- on, extending the run at hand, until its end record is served or it is refused by 3. So none of these promises holds emptily.
+-- what the calls give at one moment of a run
+pub record Serves (answers : ℕ → Bool) (a : At) : Type 0 where
+  -- "but 3"
+  pub offers :
+      (k : ℕ)
+      → (offered (a .session) (a .window) (take k (a .rest)) .refusal ≡ 0)
+      ⊎ (offered (a .session) (a .window) (take k (a .rest)) .refusal ≡ 3)
+  pub asks : waiting (a .session) (a .window) ≡ NotAsked → ⊥
+  pub answering :
+      (table : List ℕ) (hit : Bool) → waiting (a .session) (a .window) ≡ Line
+      → rowSize * (a .session .settings .before + 2) ≤ length table → answered (a .session) (a .window) table hit .refusal ≡ 0
+  pub tells : told (a .session) .refusal ≡ 0
+  -- 7 where the end record is asked for too early
+  pub records : (recorded (a .session) .refusal ≡ 0) ⊎ (recorded (a .session) .refusal ≡ 7)
+  -- the run at hand, carried on
+  pub carries : (b : At) × Steps answers a b × (Ends b ⊎ NoRoom b)
+
+-- Served. The caller of demand 3 meets no refusal but 3, and any run can be carried on, extending the run at hand, until its end record
+-- is served or it is refused by 3. So none of these promises holds emptily.
 abbrev pub Served : Type 0
-Served =
-    (c : Settings) (input : List ℕ) (answers : ℕ → Bool) (a : At) → Run c input answers a → Within c input
-    → ((k : ℕ) → let refusal = offered (a .session) (a .window) (take k (a .rest)) .refusal in (refusal ≡ 0) ⊎ (refusal ≡ 3))
-    × (waiting (a .session) (a .window) ≡ NotAsked → ⊥)
-    × ((table : List ℕ) (hit : Bool) → waiting (a .session) (a .window) ≡ Line
-    → rowSize * (a .session .settings .before + 2) ≤ length table → answered (a .session) (a .window) table hit .refusal ≡ 0)
-    × (told (a .session) .refusal ≡ 0)
-    × ((recorded (a .session) .refusal ≡ 0) ⊎ (recorded (a .session) .refusal ≡ 7))
-    × ((b : At) × Steps answers a b × (Ends b ⊎ NoRoom b))
+Served = (c : Settings) (input : List ℕ) (answers : ℕ → Bool) (a : At) → Run c input answers a → Within c input → Serves answers a
 
 -- # Memory
 
