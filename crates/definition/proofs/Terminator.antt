@@ -189,7 +189,7 @@ line-then t l ys e =
     let n : firstLength t l ≡ length l = omega arith in
     lines-next t l ys (inl (omega arith)) ∙ rw (n, take-length l, drop-length l)
 
-line-ends : (t : ℕ) (xs : List ℕ) → firstPlace t xs < length xs → firstPlace t (take (firstLength t xs) xs) + 1 ≡ length (take (firstLength t xs) xs)
+pub line-ends : (t : ℕ) (xs : List ℕ) → firstPlace t xs < length xs → firstPlace t (take (firstLength t xs) xs) + 1 ≡ length (take (firstLength t xs) xs)
 unfolding firstPlace handed
 line-ends t xs h =
     omega (arith, ap length (handed-next t xs), length-take (firstPlace t xs) xs, length-take (firstLength t xs) xs)

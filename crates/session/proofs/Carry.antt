@@ -41,7 +41,7 @@ positive : (n : ℕ) → (n ≡ 0 → ⊥) → 0 < n
 positive zero h = absurd (h refl)
 positive (suc n) h = omega arith
 
-not-front : (b n : ℕ) → 0 < n → (eqb b 0 && ltb 0 n) ≡ false → 0 < b
+pub not-front : (b n : ℕ) → 0 < n → (eqb b 0 && ltb 0 n) ≡ false → 0 < b
 not-front b n h e = elim (decLe b 0) [
   | yes k ↦
       let z : b ≡ 0 = omega arith in
@@ -85,12 +85,12 @@ fitting-rest : (s : Session) (w : List ℕ) (k : ℕ) (rest : List ℕ) → fitt
 unfolding fitting beforeQuit
 fitting-rest s w k rest = omega (arith, quit-le (s .settings .binary) (take k rest), length-take k rest)
 
-fitting-some : (s : Session) (w piece : List ℕ) → 0 < beforeQuit s piece → heldBytes s w < s .window → takenBytes s < maxInput → 0 < fitting s w piece
+pub fitting-some : (s : Session) (w piece : List ℕ) → 0 < beforeQuit s piece → heldBytes s w < s .window → takenBytes s < maxInput → 0 < fitting s w piece
 unfolding fitting
 fitting-some s w piece h k m = omega arith
 
 -- a Quit byte at the front is found
-front-quits : (s : Session) (w piece : List ℕ) → quitFront s piece ≡ true
+pub front-quits : (s : Session) (w piece : List ℕ) → quitFront s piece ≡ true
     → (eqb (fitting s w piece) (beforeQuit s piece) && ltb (fitting s w piece) (length piece)) ≡ true
 unfolding quitFront fitting
 front-quits s w piece e =
@@ -116,7 +116,7 @@ held-ends : (s : Session) → isOpen (s .input) ≡ false → s .end ≤ s .next
 unfolding remains
 held-ends s o h = rw (o, le-ltb (s .next) (s .end) h) (and-false (isOn (s .going)))
 
-busy : (s : Session) (piece : List ℕ) → 0 < length piece → s .input ≡ Open → s .going ≡ On → idle s piece ≡ false
+pub busy : (s : Session) (piece : List ℕ) → 0 < length piece → s .input ≡ Open → s .going ≡ On → idle s piece ≡ false
 unfolding idle
 busy s piece h e g = rw (ne-eqb (length piece) 0 (λ z. omega arith), ap isOpen e, ap isOn g)
 

@@ -4,7 +4,8 @@ use mathlib.Core.Path.{_≡_, refl, sym, _∙_, ap}
 use mathlib.Core.Bool.{Bool, true, false, cond, not, _&&_, _||_}
 use mathlib.Core.List.{List, [], _∷_}
 use mathlib.Core.Logic.{_⊎_, inl, inr}
-use lib.Dec.{ltb, leb, eqb}
+use native.Mathlib.Omega.{arith}
+use lib.Dec.{ltb, leb}
 use lib.ListN.{length}
 use borrow.Author.Tests.{leb-true, leb-false, ltb-true, ltb-false}
 use Rattle.definition.specs.Bounds.{maxInput}
@@ -14,30 +15,27 @@ use Rattle.session.specs.declared.Answering.the-variants.{AnswerRefused,
 use Rattle.session.specs.declared.Offering.{Offering}
 use Rattle.session.specs.declared.Offering.the-variants.{OfferRefused, Idle, Take}
 use Rattle.session.specs.declared.Session.{Session}
-use Rattle.session.specs.Calls.{answerRows, answering, beforeQuit, belowOne, fitting, idle, offering, quitFront, taking}
+use Rattle.session.specs.Calls.{answerRows, answering, belowOne, idle, offerAnswer, offering, quitFront, taking}
+use Rattle.session.specs.Caller.{Plain}
 use Rattle.session.specs.Held.{heldBytes, waits}
 use Rattle.session.specs.Sound.{sound, takenBytes}
 
 module _ (s : Session) (w piece : List ℕ) where
-  -- a piece that is neither idle nor led by a Quit byte
-  abbrev pub Plain : Type 0
-  Plain = (sound s (length w) ≡ true) × (idle s piece ≡ false) × (quitFront s piece ≡ false)
-
   pub data OfferCase : Offering → Type 0 where
     unsound : sound s (length w) ≡ false → OfferCase (OfferRefused 6)
     idling : sound s (length w) ≡ true → idle s piece ≡ true → OfferCase Idle
     quits : sound s (length w) ≡ true → idle s piece ≡ false → quitFront s piece ≡ true → OfferCase (taking s w piece)
-    sized : Plain → maxInput ≤ takenBytes s → OfferCase (OfferRefused 5)
-    full : Plain → takenBytes s < maxInput → waits s w ≡ false → s .window ≤ heldBytes s w → OfferCase (OfferRefused 3)
-    takes : Plain → takenBytes s < maxInput → (waits s w ≡ true) ⊎ (heldBytes s w < s .window) → OfferCase (taking s w piece)
+    sized : Plain s w piece → maxInput ≤ takenBytes s → OfferCase (OfferRefused 5)
+    full : Plain s w piece → takenBytes s < maxInput → waits s w ≡ false → s .window ≤ heldBytes s w → OfferCase (OfferRefused 3)
+    takes : Plain s w piece → takenBytes s < maxInput → (waits s w ≡ true) ⊎ (heldBytes s w < s .window) → OfferCase (taking s w piece)
 
-  offer-room : (b v : Bool) → waits s w ≡ b → leb (s .window) (heldBytes s w) ≡ v → Plain → takenBytes s < maxInput
+  offer-room : (b v : Bool) → waits s w ≡ b → leb (s .window) (heldBytes s w) ≡ v → Plain s w piece → takenBytes s < maxInput
       → OfferCase (cond (not b && v) (OfferRefused 3) (taking s w piece))
   offer-room true v e k p m = takes p m (inl e)
   offer-room false true e k p m = full p m e (leb-true (s .window) (heldBytes s w) k)
   offer-room false false e k p m = takes p m (inr (leb-false (s .window) (heldBytes s w) k))
 
-  offer-size : (b : Bool) → leb maxInput (takenBytes s) ≡ b → Plain
+  offer-size : (b : Bool) → leb maxInput (takenBytes s) ≡ b → Plain s w piece
       → OfferCase (cond b (OfferRefused 5) (cond (not (waits s w) && leb (s .window) (heldBytes s w)) (OfferRefused 3) (taking s w piece)))
   offer-size true e p = sized p (leb-true maxInput (takenBytes s) e)
   offer-size false e p = offer-room (waits s w) (leb (s .window) (heldBytes s w)) refl refl p (leb-false maxInput (takenBytes s) e)
@@ -57,6 +55,17 @@ module _ (s : Session) (w piece : List ℕ) where
   pub offer-case : OfferCase (offering s w piece)
   unfolding offering
   offer-case = offer-first (sound s (length w)) (idle s piece) (quitFront s piece) refl refl refl
+
+-- what a refusal for room says
+pub offer-3 : (s : Session) (w piece : List ℕ) (o : Offering) → OfferCase s w piece o → offerAnswer o s w piece .refusal ≡ 3
+    → Plain s w piece × (takenBytes s < maxInput) × (waits s w ≡ false) × (s .window ≤ heldBytes s w)
+unfolding taking
+offer-3 s w piece _ (unsound e) r = absurd (omega (arith, r))
+offer-3 s w piece _ (idling e d) r = absurd (omega (arith, r))
+offer-3 s w piece _ (quits e d q) r = absurd (omega (arith, r))
+offer-3 s w piece _ (sized p m) r = absurd (omega (arith, r))
+offer-3 s w piece _ (full p m v f) r = (p, m, v, f)
+offer-3 s w piece _ (takes p m v) r = absurd (omega (arith, r))
 
 module _ (s : Session) (w : List ℕ) (table : ℕ) (hit : Bool) where
   pub data AnswerCase : Answering → Type 0 where

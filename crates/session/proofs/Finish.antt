@@ -135,7 +135,7 @@ pub served-done : (s : Session) → recorded s .refusal ≡ 0 → Done s
 unfolding recorded recording
 served-done s = go (agrees s) (remains s) refl
   where
-    go : (b v : Bool) → remains s ≡ v → _≡_ {A = ℕ} (cond (not b) 6 (cond v 7 0)) 0 → Done s
+    go : (b v : Bool) → remains s ≡ v → _≡_ {A = ℕ} (cond b (cond v 7 0) 6) 0 → Done s
     go true true e k = absurd (omega (arith, k))
     go true false e k = done-of s e
     go false v e k = absurd (omega (arith, k))

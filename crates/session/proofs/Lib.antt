@@ -11,4 +11,5 @@ pub mod Finish
 pub mod Carry
 pub mod Room
 pub mod Promises
+pub mod Caller
 pub mod Driven

@@ -144,7 +144,12 @@ module _ (c : Settings) (input : List ℕ) (answers : ℕ → Bool) (a : At) (r 
       (subst (λ x. TooLong x input answers n count) (sym (run-settings c input answers a r)) t) (served-done (a .session) e)
 
 pub room : Room
-room c input answers a r = (run-too-long c input answers a r, λ h count t. (run-not-past c input answers a r _ count (omega arith) t, refused h count t))
+room c input answers a r =
+    record {
+      only = run-too-long c input answers a r;
+      never-past = λ count t. run-not-past c input answers a r (length (a .window)) count (omega arith) t;
+      refused = refused;
+    }
   where
     refused : Within c input → (count : ℕ) → TooLong c input answers (length (a .window)) count → (b : At) × Steps answers a b × NoRoom b × (b .count ≡ count)
     refused h count t =

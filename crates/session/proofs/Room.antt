@@ -21,7 +21,7 @@ use Rattle.session.specs.Calls.{idle, offerAnswer, offered, quitFront, r
 use Rattle.session.specs.Held.{heldBytes, isOn, isOpen, keptBytes, lineBytes, unanswered, waits}
 use Rattle.session.specs.Promises.{Fitted, TooLong, keptBefore}
 use Rattle.session.proofs.Carry.{more-text, not-idle}
-use Rattle.session.proofs.Cases.{OfferCase, unsound, idling, quits, sized, full, takes, offer-case}
+use Rattle.session.proofs.Cases.{offer-3, offer-case}
 use Rattle.session.proofs.Finish.{Done, stopped, ended, nothing-left}
 use Rattle.session.proofs.Giving.{going-is, kept-before}
 use Rattle.session.proofs.Invariant.{Inv, unanswered-length}
@@ -64,21 +64,6 @@ or-left : (a b : Bool) → (a || b) ≡ false → a ≡ false
 or-left true b e = e
 or-left false b e = refl
 
-record Full (s : Session) (w piece : List ℕ) : Type 0 where
-  busy : idle s piece ≡ false
-  front : quitFront s piece ≡ false
-  none : waits s w ≡ false
-  held : s .window ≤ heldBytes s w
-
-full-of : (s : Session) (w piece : List ℕ) (o : Offering) → OfferCase s w piece o → offerAnswer o s w piece .refusal ≡ 3 → Full s w piece
-unfolding taking
-full-of s w piece _ (unsound e) r = absurd (omega (arith, r))
-full-of s w piece _ (idling e d) r = absurd (omega (arith, r))
-full-of s w piece _ (quits e d q) r = absurd (omega (arith, r))
-full-of s w piece _ (sized p m) r = absurd (omega (arith, r))
-full-of s w piece _ (full p m v f) r = record { busy = p .1; front = p .2; none = v; held = f }
-full-of s w piece _ (takes p m v) r = absurd (omega (arith, r))
-
 -- a line longer than what is held, after what is kept, exceeds the window
 over : (s : Session) (w : List ℕ) → s .window ≤ heldBytes s w → (n kept len : ℕ) → n ≡ s .window → kept ≡ keptBytes s w → s .end - s .next < len
     → n < kept + len
@@ -104,11 +89,11 @@ module _ (input : List ℕ) (answers : ℕ → Bool) (s : Session) (w rest : Lis
       let t = c .terminator in
       let u = unanswered s w in
       let v = text c rest in
-      let f = full-of s w (take k rest) _ (offer-case s w (take k rest)) e in
-      let idle = not-idle s (take k rest) (f .busy) in
-      let some = more-text input answers s w rest count given i k (idle .0) (f .front) .1 in
+      let f = offer-3 s w (take k rest) _ (offer-case s w (take k rest)) e in
+      let idle = not-idle s (take k rest) (f .0 .1) in
+      let some = more-text input answers s w rest count given i k (idle .0) (f .0 .2) .1 in
       let joined = length-append u v in
-      let first = first-append-none t u v (no-terminator (f .none) (idle .2)) in
+      let first = first-append-none t u v (no-terminator (f .2) (idle .2)) in
       let n = firstLength t (u ++ v) in
       let long : length (take n (u ++ v)) ≡ n = length-take n (u ++ v) ∙ omega arith in
       let size = unanswered-length s w (i .agree) (i .window-is) in
@@ -121,7 +106,7 @@ module _ (input : List ℕ) (answers : ℕ → Bool) (s : Session) (w rest : Lis
           count-is = sym (i .count-is);
           reached = sym (going-is input answers s w rest count given i) ∙ idle .2;
           fitted = subst (λ m. Fitted c answers m (i .gone)) (sym (i .window-is)) (i .fitted);
-          exceeds = over s w (f .held) (length w) (keptBefore c answers (i .gone)) (length (take n (u ++ v))) (i .window-is) kept (omega (arith, first, long, joined, size, some));
+          exceeds = over s w (f .3) (length w) (keptBefore c answers (i .gone)) (length (take n (u ++ v))) (i .window-is) kept (omega (arith, first, long, joined, size, some));
         },
         i .rows-are,
       )

@@ -157,6 +157,18 @@ module _ (s : Session) (w piece : List ℕ) (n : ℕ) (a : Agree s) (r : Room s 
         size,
       )
 
+  -- what lies beyond the new held end stays
+  pub stored-beyond : drop (s .end - keptFrom s w + n) (storedWindow s w piece n) ≡ drop (s .end - keptFrom s w + n) w
+  unfolding storedWindow
+  stored-beyond =
+      let held = part (keptFrom s w) (s .end) w in
+      let new = text (s .settings) (take n piece) in
+      let tail = drop (s .end - keptFrom s w + n) w in
+      let long : length (held ++ new) ≡ s .end - keptFrom s w + n =
+      omega (arith, length-append held new, new-length, part-length (keptFrom s w) (s .end) w (omega (arith, from-le, a)) (omega (arith, a, size)))
+      in
+      ap (drop (s .end - keptFrom s w + n)) (sym (append-assoc held new tail)) ∙ drop-at (held ++ new) tail (s .end - keptFrom s w + n) long
+
   -- the lines since the last row are the kept ones
   stored-since : (quit : Bool) → sinceLines (stored s w piece n quit) (storedWindow s w piece n) ≡ lastOf (keptLines (s .settings)) (sinceLines s w)
   unfolding sinceLines stored lastOf

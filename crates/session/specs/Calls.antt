@@ -288,7 +288,7 @@ unfoldable pub remains : Session → Bool
 remains s = isOn (s .going) && (isOpen (s .input) || ltb (s .next) (s .end))
 
 unfoldable pub recording : Session → ℕ
-recording s = cond (not (agrees s)) 6 (cond (remains s) 7 0)
+recording s = cond (agrees s) (cond (remains s) 7 0) 6
 
 abbrev pub isQuit : Input → Bool
 isQuit Open = false

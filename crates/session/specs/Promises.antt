@@ -85,16 +85,22 @@ pub record TooLong (c : Settings) (input : List ℕ) (answers : ℕ → Bool) (w
   pub fitted : Fitted c answers window before
   pub exceeds : window < keptBefore c answers before + length line
 
--- Room, exactly. ".. or a beginning of them followed by a refusal for room exactly where 01's room rule says": an offer is refused by 3
--- only where the line reached, with the lines kept before it, exceeds the window, every line before it fitted, and the rows given are
--- those of the lines before it. And where there is such a line no run gets past it, and every run can be carried on to that refusal.
+-- Room, exactly. ".. or a beginning of them followed by a refusal for room exactly where 01's room rule says."
+pub record Exactly (c : Settings) (input : List ℕ) (answers : ℕ → Bool) (a : At) : Type 0 where
+  -- An offer is refused by 3 only where the line reached, with the lines kept before it, exceeds the window; every line before it
+  -- fitted, and the rows given by then are those of the lines before it.
+  pub only :
+      NoRoom a
+      → (t : TooLong c input answers (length (a .window)) (a .count)) × (a .rows ≡ rows c answers (opened c) (t .before))
+  -- Where there is such a line, no run gets past it, ..
+  pub never-past : (count : ℕ) → TooLong c input answers (length (a .window)) count → a .count ≤ count
+  -- .. and every run can be carried on to where it is refused by 3 there.
+  pub refused :
+      Within c input → (count : ℕ) → TooLong c input answers (length (a .window)) count
+      → (b : At) × Steps answers a b × NoRoom b × (b .count ≡ count)
+
 abbrev pub Room : Type 0
-Room =
-    (c : Settings) (input : List ℕ) (answers : ℕ → Bool) (a : At) → Run c input answers a
-    → (NoRoom a
-    → (t : TooLong c input answers (length (a .window)) (a .count)) × (a .rows ≡ rows c answers (opened c) (t .before)))
-    × (Within c input → (count : ℕ) → TooLong c input answers (length (a .window)) count
-    → (a .count ≤ count) × ((b : At) × Steps answers a b × NoRoom b × (b .count ≡ count)))
+Room = (c : Settings) (input : List ℕ) (answers : ℕ → Bool) (a : At) → Run c input answers a → Exactly c input answers a
 
 -- # Served
 
