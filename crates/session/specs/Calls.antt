@@ -74,13 +74,13 @@ quitPlace (Convert b) piece = length piece
 unfoldable pub beforeQuit : Session → List ℕ → ℕ
 beforeQuit s piece = quitPlace (s .settings .binary) piece
 
--- "An empty piece, or one after the end or a stop, takes 0 and changes nothing."
-unfoldable pub idle : Session → List ℕ → Bool
-idle s piece = eqb (length piece) 0 || not (isOpen (s .input)) || not (isOn (s .going))
-
 -- "a Quit byte at the piece's front"
 unfoldable pub quitFront : Session → List ℕ → Bool
 quitFront s piece = eqb (beforeQuit s piece) 0 && ltb 0 (length piece)
+
+-- "An empty piece, or one after the end or a stop, takes 0 and changes nothing."
+unfoldable pub idle : Session → List ℕ → Bool
+idle s piece = eqb (length piece) 0 || not (isOpen (s .input)) || not (isOn (s .going))
 
 -- "as many as fit and as the size allows"
 unfoldable pub fitting : Session → List ℕ → List ℕ → ℕ
