@@ -108,7 +108,7 @@ play s w (answer hit n ∷ calls) =
     gave (a .refusal) (rowsIn (a .rows) table') (drop (rowSize * a .rows) table') ∷ play (a .session) w calls
 play s w (tell ∷ calls) = heard (told s .refusal) ∷ play (told s .session) w calls
 play s w (ask ∷ calls) = ended (recorded s .refusal) (recorded s .end) ∷ play s w calls
-play s w (drive size input hits ∷ calls) = driven 60 (answersAt hits) size s w input [] ∷ play s w calls
+play s w (drive size input hits ∷ calls) = driven 100 (answersAt hits) size s w input [] ∷ play s w calls
 
 pub record Script : Type 0 where
   pub window : List ℕ
