@@ -1,7 +1,7 @@
 -- Why a line gets what it gets: a case for each fate.
-use Prim.Native.Nat.{ℕ, _≤_, _<_}
+use Prim.Native.Nat.{ℕ, _<_}
 use mathlib.Core.Path.{_≡_, refl}
-use mathlib.Core.Bool.{Bool, true, false, cond, not, _&&_, xor, and-eq-true-iff}
+use mathlib.Core.Bool.{Bool, true, false, cond, not, xor, and-eq-true-iff}
 use native.Mathlib.Omega.{arith}
 use lib.Dec.{ltb}
 use borrow.Author.Tests.{ltb-true, ltb-false, not-true}

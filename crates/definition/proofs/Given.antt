@@ -1,18 +1,17 @@
 -- Laws of the definition's own words: which lines have a row, which lie between two rows, and where breaks come.
 use Prim.Native.Nat.{ℕ, zero, suc, _+_, _-_, _≤_, _<_}
 use mathlib.Core.Path.{_≡_, refl, sym, _∙_, ap}
-use mathlib.Core.Bool.{Bool, true, false, cond, not, _&&_, _||_, and-false, or-true, or-assoc}
+use mathlib.Core.Bool.{Bool, true, false, cond, _&&_, _||_, and-false, or-true, or-assoc}
 use mathlib.Core.List.{List, [], _∷_, _++_, map, append-assoc, append-nil, cons≢nil}
 use native.Mathlib.Decide.{decLe}
 use native.Mathlib.Omega.{arith}
-use native.Mathlib.Numerals.{add-one}
 use lib.Dec.{ltb, eqb}
 use lib.ListN.{length, drop}
-use borrow.Author.Tests.{lt-ltb, le-ltb, ne-eqb, eq-eqb, eqb-true}
+use borrow.Author.Tests.{lt-ltb, le-ltb, ne-eqb, eq-eqb}
 use Rattle.definition.specs.declared.Settings.{Settings}
 use Rattle.definition.specs.Bounds.{contextual}
 use Rattle.definition.specs.Definition.{hasRow, rowless, lastOf, lastNumber, between, breakBefore, give}
-use Rattle.definition.specs.Rows.{Line, Row, row, break, beforeKind}
+use Rattle.definition.specs.Rows.{Line, Row, row, break}
 use Rattle.definition.proofs.Lists.{lastOf-append, lastOf-lastOf}
 
 -- # Numbers

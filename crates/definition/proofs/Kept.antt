@@ -1,7 +1,7 @@
 -- Laws of the form in State.antt: the rows of a beginning of the lines are a beginning of the rows, and B + 1 kept lines are enough.
-use Prim.Native.Nat.{ℕ, _+_, _-_, _≤_, _<_}
+use Prim.Native.Nat.{ℕ, _+_, _≤_}
 use mathlib.Core.Path.{_≡_, refl, sym, _∙_, ap, ap₂}
-use mathlib.Core.Bool.{Bool, true, false, cond, not, _&&_, _||_}
+use mathlib.Core.Bool.{Bool, true, false, cond, _&&_, _||_}
 use mathlib.Core.List.{List, [], _∷_, _++_, map, append-assoc}
 use native.Mathlib.Decide.{decLe}
 use native.Mathlib.Omega.{arith}
@@ -15,8 +15,8 @@ use Rattle.definition.specs.Bounds.{contextual}
 use Rattle.definition.specs.Definition.{Fate, match, after, other, norow, lastOf}
 use Rattle.definition.specs.Laws.{RowsBegin, KeptEnough, TrimRows, TrimState}
 use Rattle.definition.specs.Rows.{Line, Row, row, break, beforeKind, matchKind}
-use Rattle.definition.specs.State.{State, nextLine, breaks, rowsFor, sinceNext, stateNext, fateOf, stepRows, stepState, state, rows, keptLines, trim, keptRows}
-use Rattle.definition.proofs.Lists.{lastOf-none, lastOf-trim-append, length-lastOf, lastOf-lastOf}
+use Rattle.definition.specs.State.{State, nextLine, breaks, rowsFor, stateNext, fateOf, stepRows, stepState, state, rows, keptLines, trim, keptRows}
+use Rattle.definition.proofs.Lists.{lastOf-trim-append, length-lastOf, lastOf-lastOf}
 
 -- # A beginning of the lines
 

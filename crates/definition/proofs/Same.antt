@@ -1,20 +1,20 @@
 -- The definition in 01's words and the form in State.antt give the same rows and the same end record, for all inputs, settings and
 -- answers. The invariant: the lines seen are those up to the last with a row, then those since; no row lies past the first part, and
 -- the last B lines of it all have one.
-use Prim.Native.Nat.{ℕ, _+_, _-_, _≤_, _<_}
+use Prim.Native.Nat.{ℕ, _+_, _-_, _<_}
 use mathlib.Core.Path.{_≡_, refl, sym, _∙_, ap, ap₂}
 use mathlib.Core.Bool.{Bool, true, false, cond, not, _&&_, true≢false}
 use mathlib.Core.List.{List, [], _∷_, _++_, map, append-assoc, append-nil}
 use native.Mathlib.Decide.{decLe}
 use native.Mathlib.Omega.{arith}
-use lib.Dec.{ltb, eqb}
-use lib.ListN.{length, take, drop, length-append, length-take, take-append-drop}
+use lib.Dec.{ltb}
+use lib.ListN.{length, take, length-append, length-take, take-append-drop}
 use borrow.Author.Tests.{lt-ltb, le-ltb}
 use Rattle.definition.specs.declared.Going.{Going}
 use Rattle.definition.specs.declared.Going.the-variants.{On, LimitMet, NonmatchMet}
 use Rattle.definition.specs.declared.Settings.{Settings}
 use Rattle.definition.specs.Bounds.{contextual}
-use Rattle.definition.specs.Definition.{Fate, match, after, other, norow, fate, selected, afterLeftNext, matchesNext, isMatch, goingNext, lastOf, hasRow, rowless, between, lastNumber, give, ownRows, Gone, start, goneNext, goThrough, walk, linesOf, gone, bytesOf, endRecord, rowsOf, endOf}
+use Rattle.definition.specs.Definition.{Fate, match, after, other, norow, fate, selected, afterLeftNext, matchesNext, isMatch, goingNext, lastOf, rowless, between, lastNumber, give, ownRows, Gone, start, goneNext, goThrough, walk, linesOf, gone, bytesOf, endRecord, rowsOf, endOf}
 use Rattle.definition.specs.Laws.{SameRows, SameEnd, EmptyText, finalState}
 use Rattle.definition.specs.Rows.{Line, Row, row, break, placed, matchKind, beforeKind, afterKind, otherKind}
 use Rattle.definition.specs.State.{State, opened, nextLine, breaks, rowsFor, stateNext, givenNext, sinceNext, fateOf, stepRows, stepState, state, rows}

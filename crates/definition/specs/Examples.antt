@@ -14,7 +14,7 @@ use Rattle.definition.specs.declared.Settings.{Settings}
 use Rattle.definition.specs.Definition.{rowsOf, endOf}
 use Rattle.definition.specs.Rows.{Row}
 use Rattle.definition.specs.State.{opened, keptRows}
-use Rattle.definition.specs.Text.{lines, text}
+use Rattle.definition.specs.Text.{handed, lines, text}
 
 -- the rows and the end record
 pub record Outcome : Type 0 where
@@ -52,6 +52,10 @@ kept e = keptRows (e .settings) (answersAt (e .hits)) (opened (e .settings)) (li
 
 abbrev pub HoldsKept : List Example → Type 0
 HoldsKept table = map kept table ≡ map (λ e. e .outcome .rows) table
+
+-- "The matcher is handed the line without its terminator byte; a carriage return is an ordinary byte of the line."
+abbrev pub HandsOver : Type 0
+HandsOver = handed 10 (97 ∷ 13 ∷ 10 ∷ []) ≡ 97 ∷ 13 ∷ []
 
 -- newline for terminator; invert, passthru and stop in this order
 abbrev pub settings : ℕ → ℕ → Bool → Bool → Bool → Limit → Binary → Settings

@@ -1,6 +1,6 @@
 -- 01, "Text", "Lines": what of the input is searched, how it falls into lines, and what the matcher is handed of a line.
 use Prim.Native.Nat.{ℕ}
-use mathlib.Core.Bool.{Bool, cond}
+use mathlib.Core.Bool.{cond}
 use mathlib.Core.List.{List, [], _∷_, map}
 use lib.Dec.{eqb}
 use lib.ListN.{length}

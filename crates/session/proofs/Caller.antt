@@ -1,15 +1,15 @@
 -- The promises of specs/Caller.antt.
-use Prim.Native.Nat.{ℕ, zero, suc, _+_, _-_, _*_, _≤_, _<_, min}
-use mathlib.Core.Path.{_≡_, refl, sym, _∙_, ap, ap₂, subst}
-use mathlib.Core.Bool.{Bool, true, false, cond, not, _&&_, _||_, and-eq-true-iff, and-false, or-true, false≢true, true≢false}
+use Prim.Native.Nat.{ℕ, zero, _+_, _-_, _*_, _≤_, _<_}
+use mathlib.Core.Path.{_≡_, refl, sym, _∙_, ap}
+use mathlib.Core.Bool.{Bool, true, false, cond, not, _&&_, _||_, and-eq-true-iff, and-false, or-true, true≢false}
 use mathlib.Core.List.{List, [], _∷_, _++_, flatten, map}
 use mathlib.Core.Logic.{_⊎_, inl, inr, ⊎-elim, _↔_}
 use native.Mathlib.Decide.{decLe, decLt}
 use native.Mathlib.Omega.{arith}
-use lib.Dec.{ltb, leb, eqb}
+use lib.Dec.{ltb, leb}
 use lib.ListN.{length, take, drop, length-append, length-drop, length-take}
 use lib.Seq.{drop-at}
-use borrow.Author.Tests.{eq-eqb, eqb-false, le-leb, leb-false, leb-true, le-ltb, lt-leb, lt-ltb, ltb-false, ltb-true, ne-eqb}
+use borrow.Author.Tests.{le-leb, leb-true, le-ltb, lt-leb, lt-ltb, ltb-true, ne-eqb}
 use Rattle.definition.specs.declared.Going.{Going}
 use Rattle.definition.specs.declared.Going.the-variants.{On, LimitMet, NonmatchMet}
 use Rattle.definition.specs.declared.Settings.{Settings}
@@ -25,8 +25,8 @@ use Rattle.session.specs.declared.Offering.{Offering}
 use Rattle.session.specs.declared.Session.{Session}
 use Rattle.session.specs.declared.Waiting.{Waiting}
 use Rattle.session.specs.declared.Waiting.the-variants.{Line, NoLine, NotAsked}
-use Rattle.session.specs.Calls.{answerAnswer, answerRows, answerSession, answerTable, answered, answeredTable, answering, beforeQuit, belowOne, fitting, idle, inputTold, noRecord, offerAnswer, offerWindow, offered, offeredWindow, offering, opened, opening, putRows, quitFront, recorded, recording, remains, shownLine, shownWhere, stepped, stored, storedWindow, taking, told, toldSession, waiting, waitingRefusal}
-use Rattle.session.specs.Caller.{waitingIn, unfinishedIn, waitingBytes, unfinishedBytes, wholeBytes, loneBytes, Reached, opens, offers, answers, tells, Agreeing, Answers, Balance, NothingTwice, Offers, Others, Plain, Progress, RefusalsChangeNothing, RowsStay, Unchanged, WhenAndOnlyThen, WindowStays}
+use Rattle.session.specs.Calls.{answerAnswer, answerRows, answerSession, answerTable, answered, answeredTable, answering, beforeQuit, belowOne, fitting, idle, inputTold, offerAnswer, offerWindow, offered, offeredWindow, offering, opened, opening, putRows, quitFront, recorded, recording, remains, shownLine, shownWhere, stepped, stored, storedWindow, taking, told, toldSession, waiting}
+use Rattle.session.specs.Caller.{waitingIn, unfinishedIn, waitingBytes, unfinishedBytes, wholeBytes, loneBytes, Reached, opens, offers, answers, tells, Agreeing, Answers, Balance, NothingTwice, Offers, Others, Plain, Progress, RefusalsChangeNothing, RowsStay, WhenAndOnlyThen, WindowStays}
 use Rattle.session.specs.Held.{heldBytes, isOn, isOpen, keptFrom, lineBytes, shown, unanswered, waits}
 use Rattle.session.specs.Sound.{agrees, closed, sound, takenBytes, tests}
 use Rattle.session.proofs.Agree.{Agree, agrees-of}

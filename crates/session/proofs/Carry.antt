@@ -1,21 +1,17 @@
 -- Any run can be carried on until its end record is served or it is refused by 3: each turn ends it or makes what is left lighter.
-use Prim.Native.Nat.{ℕ, zero, suc, _+_, _-_, _*_, _≤_, _<_, min}
+use Prim.Native.Nat.{ℕ, zero, suc, _+_, _-_, _*_, _≤_, _<_}
 use mathlib.Core.Path.{_≡_, refl, sym, _∙_, ap, ap₂, subst}
 use mathlib.Core.Bool.{Bool, true, false, cond, not, _&&_, _||_, and-false, and-eq-true-iff, true≢false}
-use mathlib.Core.List.{List, [], _∷_, _++_}
+use mathlib.Core.List.{List, [], _∷_}
 use mathlib.Core.Logic.{_⊎_, inl, inr, ⊎-elim}
 use native.Mathlib.Decide.{decLe}
 use native.Mathlib.Omega.{arith}
-use lib.Dec.{ltb, leb, eqb}
+use lib.Dec.{ltb, eqb}
 use lib.ListN.{length, take, drop, length-append, length-drop, length-replicate, length-take, replicate}
-use lib.Seq.{take-length}
 use borrow.Author.Tests.{eq-eqb, eqb-true, eqb-false, le-ltb, lt-ltb, ltb-false, ltb-true, ne-eqb}
-use Rattle.definition.specs.declared.Going.{Going}
-use Rattle.definition.specs.declared.Going.the-variants.{On, LimitMet, NonmatchMet}
-use Rattle.definition.specs.declared.Settings.{Settings}
+use Rattle.definition.specs.declared.Going.the-variants.{On}
 use Rattle.definition.specs.Bounds.{maxInput}
 use Rattle.definition.specs.Rows.{Row, rowSize}
-use Rattle.definition.specs.State.{stateNext}
 use Rattle.definition.specs.Text.{text}
 use Rattle.definition.proofs.Uncut.{text-append}
 use Rattle.session.specs.declared.Answering.{Answering}
@@ -23,12 +19,12 @@ use Rattle.session.specs.declared.Input.{Input}
 use Rattle.session.specs.declared.Input.the-variants.{Open, Ended, QuitFound}
 use Rattle.session.specs.declared.Offering.{Offering}
 use Rattle.session.specs.declared.Session.{Session}
-use Rattle.session.specs.declared.Waiting.the-variants.{Line, NoLine, NotAsked}
+use Rattle.session.specs.declared.Waiting.the-variants.{Line}
 use Rattle.session.specs.Calls.{answerAnswer, answerSession, answered, beforeQuit, fitting, idle, inputTold, offerAnswer, offered, quitFront, recorded, recording, remains, stepped, stored, taking, told, toldSession, waiting}
-use Rattle.session.specs.Held.{heldBytes, isOn, isOpen, keptBytes, keptFrom, lineBytes, lineLength, shown, unanswered, waits}
+use Rattle.session.specs.Held.{heldBytes, isOn, isOpen, keptFrom, lineBytes, unanswered, waits}
 use Rattle.session.specs.Promises.{Ends, NoRoom, Within}
-use Rattle.session.specs.Run.{At, Steps, here, offer, answer, ask, tell, atAnswer, atEnd, atOffer}
-use Rattle.session.specs.Sound.{agrees, sound, takenBytes}
+use Rattle.session.specs.Run.{At, Steps, here, offer, answer, tell, atAnswer, atEnd, atOffer}
+use Rattle.session.specs.Sound.{sound, takenBytes}
 use Rattle.session.proofs.Agree.{Agree, agrees-of}
 use Rattle.session.proofs.Cases.{OfferCase, unsound, idling, quits, sized, full, takes, offer-case, AnswerCase, few, gives, none, below, answer-case}
 use Rattle.session.proofs.Cases as Cases

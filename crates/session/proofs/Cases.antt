@@ -1,8 +1,8 @@
 -- Why an offer or an answer decides as it does: a case for each way through the tests.
-use Prim.Native.Nat.{ℕ, _+_, _-_, _*_, _≤_, _<_}
-use mathlib.Core.Path.{_≡_, refl, sym, _∙_, ap}
-use mathlib.Core.Bool.{Bool, true, false, cond, not, _&&_, _||_}
-use mathlib.Core.List.{List, [], _∷_}
+use Prim.Native.Nat.{ℕ, _*_, _≤_, _<_}
+use mathlib.Core.Path.{_≡_, refl}
+use mathlib.Core.Bool.{Bool, true, false, cond, not, _&&_}
+use mathlib.Core.List.{List}
 use mathlib.Core.Logic.{_⊎_, inl, inr}
 use native.Mathlib.Omega.{arith}
 use lib.Dec.{ltb, leb}
@@ -13,7 +13,7 @@ use Rattle.definition.specs.Rows.{rowSize}
 use Rattle.session.specs.declared.Answering.{Answering}
 use Rattle.session.specs.declared.Answering.the-variants.{AnswerRefused, Give}
 use Rattle.session.specs.declared.Offering.{Offering}
-use Rattle.session.specs.declared.Offering.the-variants.{OfferRefused, Idle, Take}
+use Rattle.session.specs.declared.Offering.the-variants.{OfferRefused, Idle}
 use Rattle.session.specs.declared.Session.{Session}
 use Rattle.session.specs.Calls.{answerRows, answering, belowOne, idle, offerAnswer, offering, quitFront, taking}
 use Rattle.session.specs.Caller.{Plain}

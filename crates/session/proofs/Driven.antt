@@ -1,5 +1,5 @@
 -- The claim of specs/Driven.antt, by computation.
-use mathlib.Core.Path.{_≡_, refl}
+use mathlib.Core.Path.{refl}
 use mathlib.Core.Bool.{xor}
 use mathlib.Core.List.{flatten}
 use Rattle.definition.specs.Bounds.{allowed, contextual}

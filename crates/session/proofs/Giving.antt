@@ -1,5 +1,5 @@
 -- The invariant across an answer.
-use Prim.Native.Nat.{ℕ, zero, suc, _+_, _-_, _*_, _≤_, _<_, min}
+use Prim.Native.Nat.{ℕ, _+_, _-_, _≤_, _<_}
 use mathlib.Core.Path.{_≡_, refl, sym, _∙_, ap, ap₂, subst}
 use mathlib.Core.Bool.{Bool, true, false, cond, false≢true}
 use mathlib.Core.List.{List, [], _∷_, _++_, append-assoc, append-nil, cons≢nil, flatten, head-eq-of-cons-eq, map, tail-eq-of-cons-eq}
@@ -9,25 +9,24 @@ use lib.ListN.{length, take, drop, length-append, length-take, length-drop, take
 use lib.Seq.{take-take}
 use Rattle.definition.specs.declared.Binary.{Binary}
 use Rattle.definition.specs.declared.Binary.the-variants.{Ignore, Quit, Convert}
-use Rattle.definition.specs.declared.Going.{Going}
 use Rattle.definition.specs.declared.Going.the-variants.{On}
 use Rattle.definition.specs.declared.Settings.{Settings}
 use Rattle.definition.specs.Definition.{Fate, match, after, other, norow, bytesOf, lastOf}
-use Rattle.definition.specs.Rows.{Row, flat, rowSize}
+use Rattle.definition.specs.Rows.{Row, flat}
 use Rattle.definition.specs.State.{State, fateOf, keptLines, nextLine, opened, rows, state, stateNext, stepRows, stepState, trim}
 use Rattle.definition.specs.Text.{firstPlace, lines, replaced, text, textUnder, upTo}
 use Rattle.definition.proofs.Kept.{rows-append, state-append, trim-stepRows, trim-stepState}
-use Rattle.definition.proofs.Terminator.{firstLength, lines-next, lines-one, Whole, whole-append, whole-line, whole-none}
+use Rattle.definition.proofs.Terminator.{lines-next, lines-one, Whole, whole-append, whole-line, whole-none}
 use Rattle.session.specs.declared.Input.{Input}
 use Rattle.session.specs.declared.Input.the-variants.{Open, Ended, QuitFound}
 use Rattle.session.specs.declared.Session.{Session}
-use Rattle.session.specs.Calls.{answerRows, answerSession, getsRow, putRows, stepped}
+use Rattle.session.specs.Calls.{answerRows, answerSession, getsRow, stepped}
 use Rattle.session.specs.Held.{backFrom, isOpen, keptBytes, lineBytes, lineLength, part, shown, sinceLines, unanswered, waits}
 use Rattle.session.specs.Promises.{Fitted, keptBefore}
 use Rattle.session.specs.Run.{rowsIn}
 use Rattle.session.proofs.Agree.{Agree}
 use Rattle.session.proofs.Invariant.{Inv, InputNow, unanswered-length}
-use Rattle.session.proofs.Keeps.{Waits, agree-given, line-le, waiting-length, waits-why}
+use Rattle.session.proofs.Keeps.{agree-given, line-le, waiting-length, waits-why}
 use Rattle.session.proofs.Parts.{backFrom-bytes, backFrom-last, backFrom-snoc, flatten-append, kept-le, part-drop, part-none, part-split}
 
 -- # Rows read back from the table

@@ -1,12 +1,12 @@
 -- The invariant holds at every moment of every run.
-use Prim.Native.Nat.{ℕ, zero, suc, _+_, _-_, _*_, _≤_, _<_, min}
-use mathlib.Core.Path.{_≡_, refl, sym, _∙_, ap, ap₂, subst}
-use mathlib.Core.Bool.{Bool, true, false, cond, not, _&&_, and-false, false≢true, true≢false}
-use mathlib.Core.List.{List, [], _∷_, _++_, append-nil, cons≢nil, flatten, map}
+use Prim.Native.Nat.{ℕ, _+_, _*_, _≤_}
+use mathlib.Core.Path.{_≡_, refl, sym, _∙_, ap, subst}
+use mathlib.Core.Bool.{Bool, true, false, cond, not, and-false, true≢false}
+use mathlib.Core.List.{List, [], _∷_, _++_, cons≢nil, flatten}
 use native.Mathlib.Omega.{arith}
-use lib.Dec.{ltb, eqb}
-use lib.ListN.{length, take, drop, length-map}
-use borrow.Author.Tests.{ltb-true, le-ltb}
+use lib.Dec.{eqb}
+use lib.ListN.{length, take, drop}
+use borrow.Author.Tests.{le-ltb}
 use Rattle.definition.specs.declared.Binary.{Binary}
 use Rattle.definition.specs.declared.Binary.the-variants.{Ignore, Quit, Convert}
 use Rattle.definition.specs.declared.Going.{Going}
@@ -14,9 +14,9 @@ use Rattle.definition.specs.declared.Going.the-variants.{On, LimitMet, Nonmatch
 use Rattle.definition.specs.declared.Place.the-variants.{Nowhere}
 use Rattle.definition.specs.declared.Settings.{Settings}
 use Rattle.definition.specs.Definition.{Fate, match, after, other, norow, lastOf}
-use Rattle.definition.specs.Rows.{Row, flat, rowSize}
-use Rattle.definition.specs.State.{State, fateOf, keptLines, opened, rows, state, stepRows, trim}
-use Rattle.definition.specs.Text.{firstPlace, lines, text, upTo}
+use Rattle.definition.specs.Rows.{Row, rowSize}
+use Rattle.definition.specs.State.{State, fateOf, keptLines, opened, rows, state, trim}
+use Rattle.definition.specs.Text.{firstPlace, lines, upTo}
 use Rattle.definition.proofs.Kept.{before≤kept, since-counted, stepRows-most}
 use Rattle.definition.proofs.Lists.{length-lastOf}
 use Rattle.definition.proofs.Terminator.{whole-none}
@@ -27,15 +27,14 @@ use Rattle.session.specs.declared.Input.the-variants.{Open, Ended, QuitF
 use Rattle.session.specs.declared.Offering.{Offering}
 use Rattle.session.specs.declared.Offering.the-variants.{OfferRefused, Idle, Take}
 use Rattle.session.specs.declared.Session.{Session}
-use Rattle.session.specs.declared.Waiting.{Waiting}
 use Rattle.session.specs.declared.Waiting.the-variants.{Line, NoLine, NotAsked}
 use Rattle.session.specs.Calls as Calls
 use Rattle.session.specs.Calls.{answerAnswer, answerRows, answerSession, answerTable, answered, answeredTable, beforeRows, belowOne, answering, fitting, fresh, inputTold, offerAnswer, offerWindow, offered, offeredWindow, offering, opening, putRows, replacedIn, stepped, stored, taking, told, toldSession, waiting}
-use Rattle.session.specs.Held.{backFrom, part, shown, sinceLines, unanswered, waits}
+use Rattle.session.specs.Held.{backFrom, shown, sinceLines, unanswered, waits}
 use Rattle.session.specs.Promises.{keptBefore}
 use Rattle.session.specs.Run.{At, Run, Steps, here, offer, answer, ask, tell, atStart, rowsIn}
 use Rattle.session.specs.Sound.{agrees, sound}
-use Rattle.session.proofs.Agree.{Agree, agrees-of}
+use Rattle.session.proofs.Agree.{agrees-of}
 use Rattle.session.proofs.Cases.{OfferCase, unsound, idling, quits, sized, full, takes, offer-case, AnswerCase, few, gives, none, below, answer-case}
 use Rattle.session.proofs.Cases as Cases
 use Rattle.session.proofs.Giving.{inv-given, rowsIn-put, text-none}

@@ -1,5 +1,5 @@
 -- What holds at every moment of a run: the lines gone through, the raw bytes taken, and how session and window show them.
-use Prim.Native.Nat.{ℕ, _+_, _-_, _<_}
+use Prim.Native.Nat.{ℕ, _-_, _<_}
 use mathlib.Core.Path.{_≡_, ap}
 use mathlib.Core.Bool.{Bool, true}
 use mathlib.Core.List.{List, [], _++_, flatten}

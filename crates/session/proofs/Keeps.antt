@@ -1,29 +1,27 @@
 -- Each call keeps the list of contradictions empty, whatever window, piece and table it is given.
-use Prim.Native.Nat.{ℕ, zero, suc, _+_, _-_, _≤_, _<_, min}
-use mathlib.Core.Path.{_≡_, refl, sym, _∙_, ap}
+use Prim.Native.Nat.{ℕ, _+_, _-_, _≤_, _<_}
+use mathlib.Core.Path.{_≡_, refl}
 use mathlib.Core.Bool.{Bool, true, false, cond, not, _&&_, _||_, and-eq-true-iff, false≢true, or-true}
-use mathlib.Core.List.{List, [], _∷_}
+use mathlib.Core.List.{List}
 use mathlib.Core.Logic.{_⊎_, inl, inr, ⊎-elim}
 use native.Mathlib.Omega.{arith}
 use lib.Dec.{ltb, leb, eqb}
-use lib.ListN.{length, take, drop, length-take}
-use borrow.Author.Tests.{not-true, ltb-true, leb-true, leb-false, eqb-true, eqb-false, lt-ltb, le-leb, eq-eqb}
+use lib.ListN.{length, drop, length-take}
+use borrow.Author.Tests.{not-true, ltb-true, leb-true, leb-false, eqb-true, le-leb, eq-eqb}
 use Rattle.definition.specs.declared.Going.{Going}
 use Rattle.definition.specs.declared.Going.the-variants.{On, LimitMet, NonmatchMet}
 use Rattle.definition.specs.declared.Limit.{Limit}
 use Rattle.definition.specs.declared.Limit.the-variants.{Unlimited, Most}
 use Rattle.definition.specs.declared.Settings.{Settings}
 use Rattle.definition.specs.Bounds.{allowed, maxInput, maxWindow}
-use Rattle.definition.specs.Definition.{Fate, match, after, other, norow, afterLeftNext, goingNext, isMatch, limitReached, matchesNext, selected}
+use Rattle.definition.specs.Definition.{Fate, match, after, other, norow, limitReached, selected}
 use Rattle.definition.specs.State.{State, fateOf, stateNext}
 use Rattle.definition.proofs.Fates.{FateCase, selects, owes, passes, skips, fate-case, selected-below}
 use Rattle.session.specs.declared.Answering.{Answering}
-use Rattle.session.specs.declared.Answering.the-variants.{AnswerRefused, Give}
 use Rattle.session.specs.declared.Offering.{Offering}
-use Rattle.session.specs.declared.Offering.the-variants.{OfferRefused, Idle, Take}
 use Rattle.session.specs.declared.Session.{Session}
 use Rattle.session.specs.Calls.{answerAnswer, answerSession, answered, beforeQuit, fitting, fresh, getsRow, offerAnswer, offered, opened, opening, stepped, stored, taking, told, toldSession}
-use Rattle.session.specs.Held.{heldBytes, isOn, isOpen, keptBytes, keptFrom, lineBytes, lineLength, part, shown, unanswered, waits}
+use Rattle.session.specs.Held.{heldBytes, isOn, isOpen, keptBytes, keptFrom, lineBytes, lineLength, shown, unanswered, waits}
 use Rattle.session.specs.Sound.{agrees, sound, takenBytes, withinLimit}
 use Rattle.session.proofs.Agree.{Agree, agree-of, agrees-of}
 use Rattle.session.proofs.Cases.{OfferCase, unsound, idling, quits, sized, full, takes, offer-case, AnswerCase, few, gives, none, below, answer-case}

@@ -1,18 +1,16 @@
 -- Laws of parts of a window, and of the kept part: all hold for any window.
-use Prim.Native.Nat.{ℕ, zero, suc, _+_, _-_, _≤_, _<_, min}
+use Prim.Native.Nat.{ℕ, zero, suc, _+_, _-_, _≤_}
 use mathlib.Core.Path.{_≡_, refl, sym, _∙_, ap}
 use mathlib.Core.List.{List, [], _∷_, _++_, append-assoc, flatten}
 use native.Mathlib.Omega.{arith}
 use lib.ListN.{length, take, drop, length-append, length-take, length-drop, take-append-drop}
 use lib.Seq.{drop-drop, take-add, take-nil, drop-at}
 use Rattle.definition.specs.Definition.{bytesOf, lastOf}
-use Rattle.definition.specs.Rows.{Line}
 use Rattle.definition.specs.State.{keptLines}
 use Rattle.definition.specs.Text.{lines}
-use Rattle.definition.proofs.Lists.{lastOf-lastOf}
-use Rattle.definition.proofs.Terminator.{lines-whole, lines-drop, Whole, whole-drop}
+use Rattle.definition.proofs.Terminator.{lines-whole}
 use Rattle.session.specs.declared.Session.{Session}
-use Rattle.session.specs.Held.{part, backFrom, heldBytes, keptBytes, keptFrom, sinceLines, unanswered}
+use Rattle.session.specs.Held.{part, backFrom, keptBytes, keptFrom, sinceLines}
 
 pub part-length : (a e : ℕ) (w : List ℕ) → a ≤ e → e ≤ length w → length (part a e w) ≡ e - a
 part-length a e w h k = omega (arith, length-take (e - a) (drop a w), length-drop a w)

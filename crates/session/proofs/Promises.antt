@@ -1,8 +1,8 @@
 -- The promises of specs/Promises.antt, from the invariant.
-use Prim.Native.Nat.{ℕ, zero, suc, _+_, _-_, _*_, _≤_, _<_, min}
-use mathlib.Core.Path.{_≡_, refl, sym, _∙_, ap, ap₂, subst}
+use Prim.Native.Nat.{ℕ, _+_, _-_, _≤_}
+use mathlib.Core.Path.{_≡_, sym, _∙_, ap, subst}
 use mathlib.Core.Bool.{Bool, true, false, cond}
-use mathlib.Core.List.{List, [], _∷_, _++_, append-assoc, append-nil}
+use mathlib.Core.List.{List, _∷_, _++_, append-nil}
 use mathlib.Core.Logic.{_⊎_, inl, inr, ⊎-elim}
 use native.Mathlib.Decide.{decLe}
 use native.Mathlib.Omega.{arith}
@@ -20,7 +20,7 @@ use Rattle.definition.proofs.Terminator.{first-le, handed-next}
 use Rattle.session.specs.declared.Session.{Session}
 use Rattle.session.specs.declared.Waiting.the-variants.{Line, NoLine, NotAsked}
 use Rattle.session.specs.Calls.{answered, offered, recorded, shownLine, waiting}
-use Rattle.session.specs.Held.{lineBytes, lineLength, part, shown, unanswered, waits}
+use Rattle.session.specs.Held.{lineBytes, lineLength, shown, unanswered, waits}
 use Rattle.session.specs.Promises.{Begins, Beginning, Cut, Ends, Finished, Handed, Memory, NoRoom, Room, Served, TooLong, Within}
 use Rattle.session.specs.Run.{At, Run, Steps}
 use Rattle.session.specs.Sound.{sound}
@@ -28,7 +28,7 @@ use Rattle.session.proofs.Carry.{answer-served, carried, offer-served, 
 use Rattle.session.proofs.Cases.{answer-case, offer-case}
 use Rattle.session.proofs.Finish.{record-same, rows-done, served-done, served-record, state-done}
 use Rattle.session.proofs.Giving.{line, lines-now}
-use Rattle.session.proofs.History.{InvAt, inv-run, run-on, run-settings, steps-stay, waiting-line}
+use Rattle.session.proofs.History.{inv-run, run-on, run-settings, steps-stay, waiting-line}
 use Rattle.session.proofs.Invariant.{Inv}
 use Rattle.session.proofs.Room.{cut-shorter, not-ended, not-past, same-count, too-long}
 

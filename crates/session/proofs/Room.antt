@@ -1,8 +1,8 @@
 -- The room rule: where a run is refused by 3 its next line does not fit, and no run gets past such a line.
-use Prim.Native.Nat.{ℕ, zero, suc, _+_, _-_, _≤_, _<_, min}
+use Prim.Native.Nat.{ℕ, _+_, _-_, _≤_, _<_}
 use mathlib.Core.Path.{_≡_, refl, sym, _∙_, ap, ap₂, subst}
 use mathlib.Core.Bool.{Bool, true, false, not, _&&_, _||_}
-use mathlib.Core.List.{List, [], _∷_, _++_, append-nil, cons≢nil, head-eq-of-cons-eq, tail-eq-of-cons-eq}
+use mathlib.Core.List.{List, [], _∷_, _++_, append-nil, head-eq-of-cons-eq, tail-eq-of-cons-eq}
 use native.Mathlib.Decide.{decLt}
 use native.Mathlib.Omega.{arith}
 use lib.Dec.{ltb}
@@ -15,9 +15,8 @@ use Rattle.definition.specs.State.{State, opened, rows, state}
 use Rattle.definition.specs.Text.{firstPlace, lines, text}
 use Rattle.definition.proofs.Kept.{state-append, state-stopped}
 use Rattle.definition.proofs.Terminator.{first-append-none, firstLength, lines-head}
-use Rattle.session.specs.declared.Offering.{Offering}
 use Rattle.session.specs.declared.Session.{Session}
-use Rattle.session.specs.Calls.{idle, offerAnswer, offered, quitFront, recorded, taking}
+use Rattle.session.specs.Calls.{idle, offered}
 use Rattle.session.specs.Held.{heldBytes, isOn, isOpen, keptBytes, lineBytes, unanswered, waits}
 use Rattle.session.specs.Promises.{Fitted, TooLong, keptBefore}
 use Rattle.session.proofs.Carry.{more-text, not-idle}

@@ -1,8 +1,8 @@
 -- The invariant across an offer that takes bytes.
-use Prim.Native.Nat.{ℕ, zero, suc, _+_, _-_, _≤_, _<_, min}
+use Prim.Native.Nat.{ℕ, _+_, _-_, _≤_, _<_}
 use mathlib.Core.Path.{_≡_, refl, sym, _∙_, ap, ap₂}
-use mathlib.Core.Bool.{Bool, true, false, cond, not, _&&_, _||_, and-eq-true-iff, false≢true}
-use mathlib.Core.List.{List, [], _∷_, _++_, append-assoc, flatten}
+use mathlib.Core.Bool.{Bool, true, false, cond, not, _&&_, and-eq-true-iff}
+use mathlib.Core.List.{List, [], _++_, append-assoc, flatten}
 use native.Mathlib.Decide.{decLt}
 use native.Mathlib.Omega.{arith}
 use lib.Dec.{ltb, eqb}
@@ -12,23 +12,21 @@ use borrow.Author.Tests.{eqb-true, le-ltb, lt-ltb, ltb-true}
 use Rattle.definition.specs.declared.Binary.{Binary}
 use Rattle.definition.specs.declared.Binary.the-variants.{Ignore, Quit, Convert}
 use Rattle.definition.specs.declared.Place.the-variants.{Nowhere, At}
-use Rattle.definition.specs.declared.Settings.{Settings}
 use Rattle.definition.specs.Definition.{lastOf, quitMet}
 use Rattle.definition.specs.Rows.{Row}
-use Rattle.definition.specs.State.{State, keptLines, trim}
+use Rattle.definition.specs.State.{keptLines, trim}
 use Rattle.definition.specs.Text.{firstPlace, lines, text, textUnder, upTo}
 use Rattle.definition.proofs.Lists.{lastOf-lastOf}
 use Rattle.definition.proofs.Terminator.{first-append, first-append-none, first-le, lines-drop, Whole, whole-drop}
 use Rattle.definition.proofs.Uncut.{Uncut, length-replaced, text-append, uncut-append, upTo-drop, upTo-take}
-use Rattle.session.specs.declared.Input.the-variants.{Open, Ended, QuitFound}
+use Rattle.session.specs.declared.Input.the-variants.{Open, QuitFound}
 use Rattle.session.specs.declared.Session.{Session}
 use Rattle.session.specs.Calls.{beforeQuit, firstOf, quitPlace, replacedIn, stored, storedWindow}
-use Rattle.session.specs.Held.{backFrom, keptBytes, keptFrom, part, shown, sinceLines, unanswered}
-use Rattle.session.specs.Sound.{takenBytes}
+use Rattle.session.specs.Held.{backFrom, keptFrom, part, shown, sinceLines, unanswered}
 use Rattle.session.proofs.Agree.{Agree}
 use Rattle.session.proofs.Invariant.{Inv, InputNow, taken-is, unanswered-length}
 use Rattle.session.proofs.Keeps.{Room, agree-stored}
-use Rattle.session.proofs.Parts.{backFrom-last, kept-le, kept-part, part-length, part-split}
+use Rattle.session.proofs.Parts.{backFrom-last, kept-part, part-length, part-split}
 
 -- # Bytes before a Quit byte
 

@@ -2,7 +2,7 @@
 -- proof of the same name stands in proofs/Caller.antt. Every call is a function of its arguments, so each has exactly one outcome.
 use Prim.Native.Nat.{ℕ, _+_, _*_, _≤_, _<_}
 use mathlib.Core.Path.{_≡_}
-use mathlib.Core.Bool.{Bool, true, false, cond, not}
+use mathlib.Core.Bool.{Bool, true, false, cond}
 use mathlib.Core.List.{List, [], _∷_}
 use mathlib.Core.Logic.{_⊎_, _↔_}
 use lib.Dec.{ltb}
@@ -14,7 +14,7 @@ use Rattle.definition.specs.Rows.{rowSize}
 use Rattle.definition.specs.Text.{firstPlace, lines}
 use Rattle.session.specs.declared.Input.the-variants.{Open, QuitFound}
 use Rattle.session.specs.declared.Session.{Session}
-use Rattle.session.specs.declared.Waiting.the-variants.{Line, NoLine, NotAsked}
+use Rattle.session.specs.declared.Waiting.the-variants.{Line, NotAsked}
 use Rattle.session.specs.Calls.{answerRows, answered, answeredTable, belowOne, idle, noRecord, offered, offeredWindow, opened, quitFront, recorded, remains, shownLine, told, waiting, waitingRefusal}
 use Rattle.session.specs.Held.{heldBytes, isOn, isOpen, unanswered, waits}
 use Rattle.session.specs.Sound.{agrees, closed, sound, takenBytes}

@@ -2,7 +2,7 @@
 -- and row table.
 use Prim.Native.Nat.{ℕ, _+_, _-_, _*_, min}
 use mathlib.Core.Bool.{Bool, true, false, cond, not, _&&_, _||_}
-use mathlib.Core.List.{List, [], _∷_, _++_, flatten, map}
+use mathlib.Core.List.{List, [], _++_, flatten, map}
 use lib.Dec.{ltb, leb, eqb}
 use lib.ListN.{length, take, drop}
 use Rattle.definition.specs.declared.Binary.{Binary}
@@ -16,7 +16,7 @@ use Rattle.definition.specs.declared.Settings.{Settings}
 use Rattle.definition.specs.Bounds.{allowed, maxInput, maxWindow}
 use Rattle.definition.specs.Definition.{Fate, match, after, other, norow, causeOf, endWith, goingNext, lastOf}
 use Rattle.definition.specs.Rows.{Row, flat, rowSize}
-use Rattle.definition.specs.State.{State, fateOf, givenNext, stepRows, stepState}
+use Rattle.definition.specs.State.{State, fateOf, stepRows, stepState}
 use Rattle.definition.specs.Text.{firstPlace, text}
 use Rattle.session.specs.declared.Answered.{Answered}
 use Rattle.session.specs.declared.Answering.{Answering}

@@ -6,17 +6,16 @@ use mathlib.Core.Bool.{Bool, true, false, cond, _&&_}
 use mathlib.Core.List.{List, [], _∷_, _++_, map}
 use lib.Dec.{eqb}
 use lib.ListN.{length, take, drop, replicate}
-use Rattle.definition.specs.declared.Binary.the-variants.{Ignore, Quit, Convert}
+use Rattle.definition.specs.declared.Binary.the-variants.{Quit, Convert}
 use Rattle.definition.specs.declared.End.{End}
 use Rattle.definition.specs.declared.Going.the-variants.{On}
 use Rattle.definition.specs.declared.Limit.the-variants.{Unlimited, Most}
 use Rattle.definition.specs.declared.Place.the-variants.{Nowhere}
 use Rattle.definition.specs.declared.Settings.{Settings}
-use Rattle.definition.specs.Examples.{Example, answersAt, context, settings, r, e, T, N, atBE, all, P}
+use Rattle.definition.specs.Examples.{Example, answersAt, context, settings, r, e, N, all, P}
 use Rattle.definition.specs.Rows.{Row, rowSize}
 use Rattle.session.specs.declared.Input.the-variants.{Open}
 use Rattle.session.specs.declared.Session.{Session}
-use Rattle.session.specs.declared.Waiting.{Waiting}
 use Rattle.session.specs.Calls.{opened, offered, offeredWindow, waiting, waitingRefusal, shownLine, answered, answeredTable, told, recorded, noRecord}
 use Rattle.session.specs.Held.{isOn, isOpen, waits}
 use Rattle.session.specs.Run.{rowsIn}
@@ -273,7 +272,50 @@ Alterations =
     ∷ [])
     ∷ []
 
+-- The worked run of docs/SESSION.md: T in a window of 6, B 1, yes at b and e.
+abbrev pub Worked : Script
+Worked =
+    script (sevens 6)
+    (start (context 1 0)
+    ∷ offer (97 ∷ 10 ∷ 98 ∷ [])
+    ∷ show
+    ∷ answer false 12
+    ∷ show
+    ∷ offer (10 ∷ 99 ∷ 10 ∷ 100 ∷ 10 ∷ 101 ∷ 10 ∷ [])
+    ∷ show
+    ∷ answer true 12
+    ∷ show
+    ∷ answer false 12
+    ∷ offer (100 ∷ 10 ∷ 101 ∷ 10 ∷ [])
+    ∷ show
+    ∷ answer false 12
+    ∷ show
+    ∷ answer true 12
+    ∷ ask
+    ∷ tell
+    ∷ ask
+    ∷ [])
+    (heard 0
+    ∷ took 0 3 (97 ∷ 10 ∷ 98 ∷ 7 ∷ 7 ∷ 7 ∷ [])
+    ∷ showed 0 (97 ∷ [])
+    ∷ gave 0 [] (nines 12)
+    ∷ showed 0 []
+    ∷ took 0 3 (97 ∷ 10 ∷ 98 ∷ 10 ∷ 99 ∷ 10 ∷ [])
+    ∷ showed 0 (98 ∷ [])
+    ∷ gave 0 (r 2 0 2 1 ∷ r 1 2 2 2 ∷ []) (nines 4)
+    ∷ showed 0 (99 ∷ [])
+    ∷ gave 0 [] (nines 12)
+    ∷ took 0 4 (99 ∷ 10 ∷ 100 ∷ 10 ∷ 101 ∷ 10 ∷ [])
+    ∷ showed 0 (100 ∷ [])
+    ∷ gave 0 [] (nines 12)
+    ∷ showed 0 (101 ∷ [])
+    ∷ gave 0 (r 5 0 0 0 ∷ r 2 6 2 4 ∷ r 1 8 2 5 ∷ []) []
+    ∷ ended 7 noRecord
+    ∷ heard 0
+    ∷ ended 0 (e 10 5 2 0 0 0)
+    ∷ [])
+
 abbrev pub Table : List Script
 Table =
     map (run 6 1) P
-    ++ (map (run 7 3) P ++ (map (run 64 100) P ++ (Rooms ++ (Refusals ++ (QuitBytes ++ Alterations)))))
+    ++ (map (run 7 3) P ++ (map (run 64 100) P ++ (Rooms ++ (Refusals ++ (QuitBytes ++ (Alterations ++ (Worked ∷ [])))))))
