@@ -5,7 +5,7 @@ use Rattle.definition.specs.Bounds.{contextual}
 use Rattle.definition.specs.Definition.{selected, fate, hasRow, rowless, lastOf, lastNumber, between, breakBefore, give, goingNext, start, walk, linesOf, gone, endRecord, bytesOf, rowsOf, endOf}
 use Rattle.definition.specs.Examples.{Holds, HoldsKept, HandsOver, P, Further}
 use Rattle.definition.specs.Rows.{placed}
-use Rattle.definition.specs.State.{opened, nextLine, breaks, stateNext, fateOf, keptLines, trim, keptRows}
+use Rattle.definition.specs.State.{begun, nextLine, breaks, stateNext, fateOf, keptLines, trim, keptRows}
 use Rattle.definition.specs.Text.{handed, upTo, firstPlace, replaced, text, onto, lines}
 
 pub examples-hold : Holds P × Holds Further
@@ -17,5 +17,5 @@ unfolding handed upTo
 hands-over = refl
 
 pub examples-kept : HoldsKept P × HoldsKept Further
-unfolding xor contextual selected fate lastOf goingNext upTo replaced text onto lines opened nextLine breaks stateNext fateOf keptLines trim keptRows
+unfolding xor contextual selected fate lastOf goingNext upTo replaced text onto lines begun nextLine breaks stateNext fateOf keptLines trim keptRows
 examples-kept = (refl, refl)

@@ -1,7 +1,7 @@
 -- Laws of lists that the definition leans on and the library lacks: the last n of a list.
 use Prim.Native.Nat.{ℕ, _+_, _-_, _≤_}
 use mathlib.Core.Path.{_≡_, sym, _∙_, ap}
-use mathlib.Core.List.{List, [], _++_}
+use mathlib.Core.List.{List, _++_}
 use native.Mathlib.Decide.{decLe}
 use native.Mathlib.Omega.{arith}
 use lib.ListN.{length, drop, length-append, length-drop}
@@ -9,18 +9,6 @@ use lib.Seq.{drop-append-add, drop-append-le, drop-drop, drop-length}
 use Rattle.definition.specs.Definition.{lastOf}
 
 module _ {ℓ} {A : Type ℓ} where
-  pub lastOf-none : (xs : List A) → lastOf 0 xs ≡ []
-  unfolding lastOf
-  lastOf-none xs =
-      let e : length xs - 0 ≡ length xs = omega arith in
-      rw e (drop-length xs)
-
-  pub lastOf-all : (n : ℕ) (xs : List A) → length xs ≤ n → lastOf n xs ≡ xs
-  unfolding lastOf
-  lastOf-all n xs h =
-      let e : length xs - n ≡ 0 = omega arith in
-      rw e
-
   pub length-lastOf : (n : ℕ) (xs : List A) → length (lastOf n xs) ≡ length xs - (length xs - n)
   unfolding lastOf
   length-lastOf n xs = length-drop (length xs - n) xs

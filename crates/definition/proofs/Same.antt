@@ -17,7 +17,7 @@ use Rattle.definition.specs.Bounds.{contextual}
 use Rattle.definition.specs.Definition.{Fate, match, after, other, norow, fate, selected, afterLeftNext, matchesNext, isMatch, goingNext, lastOf, rowless, between, lastNumber, give, ownRows, Gone, start, goneNext, goThrough, walk, linesOf, gone, bytesOf, endRecord, rowsOf, endOf}
 use Rattle.definition.specs.Laws.{SameRows, SameEnd, EmptyText, finalState}
 use Rattle.definition.specs.Rows.{Line, Row, row, break, placed, matchKind, beforeKind, afterKind, otherKind}
-use Rattle.definition.specs.State.{State, opened, nextLine, breaks, rowsFor, stateNext, givenNext, sinceNext, fateOf, stepRows, stepState, state, rows}
+use Rattle.definition.specs.State.{State, begun, nextLine, breaks, rowsFor, stateNext, givenNext, sinceNext, fateOf, stepRows, stepState, state, rows}
 use Rattle.definition.specs.Text.{lines, text}
 use Rattle.definition.proofs.Fates.{FateCase, selects, owes, passes, skips, fate-case}
 use Rattle.definition.proofs.Given.{Numbered, numbered-append, numbered-join, AtMost, at-most-join, at-most-more, at-most-rows, lastNumber-append, own-row, keeps-left, keeps-right, rowless-append, rowless-later, Covered, covered-more, covered-drop, covered-given, covered-snoc, between-append, between-before, between-behind, between-inside, follow-rows, give-next, gap, give-gap}
@@ -41,8 +41,8 @@ pub record Agree (c : Settings) (g : Gone) (s : State) : Type 0 where
   pub left-is : g .afterLeft ≡ s .afterLeft
   pub going-is : g .going ≡ s .going
 
-agree-start : (c : Settings) → Agree c (start c) (opened c)
-unfolding start opened lastNumber rowless lastOf bytesOf
+agree-start : (c : Settings) → Agree c (start c) (begun c)
+unfolding start begun lastNumber rowless lastOf bytesOf
 agree-start c =
     record {
       done = [];
@@ -355,13 +355,13 @@ same c answers (l ∷ ls) g s a = go (s .going) refl (same c answers ls)
     go NonmatchMet e ih = same-stopped c answers g s (l ∷ ls) a (λ h. let z : _≡_ {A = ℕ} 0 1 = cc in omega arith)
 
 pub same-rows : SameRows
-unfolding rowsOf gone linesOf opened start
-same-rows c input answers = same c answers (lines (c .terminator) (text c input)) (start c) (opened c) (agree-start c) .0
+unfolding rowsOf gone linesOf begun start
+same-rows c input answers = same c answers (lines (c .terminator) (text c input)) (start c) (begun c) (agree-start c) .0
 
 pub same-end : SameEnd
-unfolding endOf gone linesOf opened start finalState
+unfolding endOf gone linesOf begun start finalState
 same-end c input answers =
-    let a = same c answers (lines (c .terminator) (text c input)) (start c) (opened c) (agree-start c) .1 in
+    let a = same c answers (lines (c .terminator) (text c input)) (start c) (begun c) (agree-start c) .1 in
     rw (a .bytes-is, a .lines-is, a .matches-is, a .going-is)
 
 pub empty-text : EmptyText

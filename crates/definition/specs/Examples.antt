@@ -13,7 +13,7 @@ use Rattle.definition.specs.declared.Limit.the-variants.{Unlimited, Most
 use Rattle.definition.specs.declared.Settings.{Settings}
 use Rattle.definition.specs.Definition.{rowsOf, endOf}
 use Rattle.definition.specs.Rows.{Row}
-use Rattle.definition.specs.State.{opened, keptRows}
+use Rattle.definition.specs.State.{begun, keptRows}
 use Rattle.definition.specs.Text.{handed, lines, text}
 
 -- the rows and the end record
@@ -48,7 +48,7 @@ Holds table = map computed table ≡ map written table
 
 -- And so does the walk that forgets all lines but the kept ones.
 abbrev pub kept : Example → List Row
-kept e = keptRows (e .settings) (answersAt (e .hits)) (opened (e .settings)) (lines (e .settings .terminator) (text (e .settings) (e .input)))
+kept e = keptRows (e .settings) (answersAt (e .hits)) (begun (e .settings)) (lines (e .settings .terminator) (text (e .settings) (e .input)))
 
 abbrev pub HoldsKept : List Example → Type 0
 HoldsKept table = map kept table ≡ map (λ e. e .outcome .rows) table

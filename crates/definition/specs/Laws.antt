@@ -6,18 +6,18 @@ use mathlib.Core.List.{List, [], _∷_, _++_, flatten}
 use lib.ListN.{length, take, drop}
 use Rattle.definition.specs.declared.Settings.{Settings}
 use Rattle.definition.specs.Definition.{endRecord, goingNext, rowsOf, endOf}
-use Rattle.definition.specs.State.{State, opened, state, rows, trim, keptRows}
+use Rattle.definition.specs.State.{State, begun, state, rows, trim, keptRows}
 use Rattle.definition.specs.Text.{firstPlace, handed, lines, replaced, text}
 
 -- the state after all lines of an input
 unfoldable pub finalState : Settings → List ℕ → (ℕ → Bool) → State
-finalState c input answers = state c answers (opened c) (lines (c .terminator) (text c input))
+finalState c input answers = state c answers (begun c) (lines (c .terminator) (text c input))
 
 -- The form of State.antt gives the definition's rows (Same.same-rows) ..
 abbrev pub SameRows : Type 0
 SameRows =
     (c : Settings) (input : List ℕ) (answers : ℕ → Bool)
-    → rowsOf c input answers ≡ rows c answers (opened c) (lines (c .terminator) (text c input))
+    → rowsOf c input answers ≡ rows c answers (begun c) (lines (c .terminator) (text c input))
 
 -- .. and its end record (Same.same-end).
 abbrev pub SameEnd : Type 0

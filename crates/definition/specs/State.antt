@@ -24,8 +24,8 @@ pub record State : Type 0 where
   pub since : List Line
   pub going : Going
 
-unfoldable pub opened : Settings → State
-opened c =
+unfoldable pub begun : Settings → State
+begun c =
     record {
       bytes = 0;
       lines = 0;

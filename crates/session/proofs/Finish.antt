@@ -16,7 +16,7 @@ use Rattle.definition.specs.declared.Place.{Place}
 use Rattle.definition.specs.declared.Place.the-variants.{Nowhere, At}
 use Rattle.definition.specs.Definition.{binaryPlace, causeOf, endRecord, endWith, quitMet}
 use Rattle.definition.specs.Rows.{Row}
-use Rattle.definition.specs.State.{State, opened, rows, state}
+use Rattle.definition.specs.State.{State, begun, rows, state}
 use Rattle.definition.specs.Text.{firstPlace, lines, text, textUnder, upTo}
 use Rattle.definition.proofs.Kept.{rows-stopped, state-append, state-stopped}
 use Rattle.definition.proofs.Terminator.{first-append, first-append-none}
@@ -182,7 +182,7 @@ module _ (input : List ℕ) (answers : ℕ → Bool) (s : Session) (w rest : Lis
   later = lines (s .settings .terminator) (unanswered s w ++ text (s .settings) rest)
 
   abbrev before : State
-  before = state (s .settings) answers (opened (s .settings)) (i .gone)
+  before = state (s .settings) answers (begun (s .settings)) (i .gone)
 
   -- at the end no line is left, or the walk has stopped
   pub nothing-left : isOpen (s .input) ≡ false → s .end ≤ s .next → later ≡ []
@@ -203,8 +203,8 @@ module _ (input : List ℕ) (answers : ℕ → Bool) (s : Session) (w rest : Lis
   stays-done (stopped h) = state-stopped (s .settings) answers before later (λ k. h (going-is input answers s w rest count given i ∙ k))
   stays-done (ended g o l) = ap (state (s .settings) answers before) (nothing-left o l)
 
-  pub state-done : Done s → state (s .settings) answers (opened (s .settings)) (lines (s .settings .terminator) (text (s .settings) input)) ≡ before
+  pub state-done : Done s → state (s .settings) answers (begun (s .settings)) (lines (s .settings .terminator) (text (s .settings) input)) ≡ before
   state-done d =
-      ap (state (s .settings) answers (opened (s .settings))) (i .lines-are)
-      ∙ state-append (s .settings) answers (opened (s .settings)) (i .gone) later
+      ap (state (s .settings) answers (begun (s .settings))) (i .lines-are)
+      ∙ state-append (s .settings) answers (begun (s .settings)) (i .gone) later
       ∙ stays-done d

@@ -13,7 +13,7 @@ use Rattle.definition.specs.declared.Going.the-variants.{On}
 use Rattle.definition.specs.declared.Settings.{Settings}
 use Rattle.definition.specs.Definition.{Fate, match, after, other, norow, bytesOf, lastOf}
 use Rattle.definition.specs.Rows.{Row, flat}
-use Rattle.definition.specs.State.{State, fateOf, keptLines, nextLine, opened, rows, state, stateNext, stepRows, stepState, trim}
+use Rattle.definition.specs.State.{State, fateOf, keptLines, nextLine, begun, rows, state, stateNext, stepRows, stepState, trim}
 use Rattle.definition.specs.Text.{firstPlace, lines, replaced, text, textUnder, upTo}
 use Rattle.definition.proofs.Kept.{rows-append, state-append, trim-stepRows, trim-stepState}
 use Rattle.definition.proofs.Terminator.{lines-next, lines-one, Whole, whole-append, whole-line, whole-none}
@@ -123,15 +123,11 @@ module _ (s : Session) (w : List ℕ) (a : Agree s) (size : length w ≡ s .wind
 
 module _ (input : List ℕ) (answers : ℕ → Bool) (s : Session) (w rest : List ℕ) (count : ℕ) (given : List Row)
     (i : Inv input answers s w rest count given) where
-  -- the definition's state before the line
-  before : State
-  before = state (s .settings) answers (opened (s .settings)) (i .gone)
-
-  pub going-is : s .going ≡ state (s .settings) answers (opened (s .settings)) (i .gone) .going
+  pub going-is : s .going ≡ state (s .settings) answers (begun (s .settings)) (i .gone) .going
   unfolding trim shown
   going-is = ap (λ (t : State). t .going) (i .state-is)
 
-  lines-is : s .lines ≡ state (s .settings) answers (opened (s .settings)) (i .gone) .lines
+  lines-is : s .lines ≡ state (s .settings) answers (begun (s .settings)) (i .gone) .lines
   unfolding trim shown
   lines-is = ap (λ (t : State). t .lines) (i .state-is)
 
@@ -144,9 +140,6 @@ module _ (input : List ℕ) (answers : ℕ → Bool) (s : Session) (w rest : Lis
       ∙ backFrom-bytes (s .bytes) (s .lines + 1) (lastOf (keptLines (s .settings)) (sinceLines s w))
 
   module _ (v : waits s w ≡ true) where
-    c : Settings
-    c = s .settings
-
     waits-for : (firstPlace (s .settings .terminator) (unanswered s w) < length (unanswered s w))
         ⊎ ((0 < length (unanswered s w)) × (text (s .settings) rest ≡ []))
     unfolding lineBytes
@@ -159,28 +152,28 @@ module _ (input : List ℕ) (answers : ℕ → Bool) (s : Session) (w rest : Lis
     unfolding line lineLength lineBytes
     lines-now = lines-next (s .settings .terminator) (unanswered s w) (text (s .settings) rest) waits-for
 
-    on-now : state (s .settings) answers (opened (s .settings)) (i .gone) .going ≡ On
+    on-now : state (s .settings) answers (begun (s .settings)) (i .gone) .going ≡ On
     on-now = sym going-is ∙ waits-why s w v .0
 
-    number-now : state (s .settings) answers (opened (s .settings)) (i .gone) .lines ≡ count
+    number-now : state (s .settings) answers (begun (s .settings)) (i .gone) .lines ≡ count
     number-now = omega (arith, lines-is, i .lines-is, i .count-is)
 
-    state-now : state (s .settings) answers (opened (s .settings)) (i .gone ++ (line s w ∷ []))
-        ≡ stepState On (s .settings) (state (s .settings) answers (opened (s .settings)) (i .gone)) (lineLength s w) (answers (count + 1))
+    state-now : state (s .settings) answers (begun (s .settings)) (i .gone ++ (line s w ∷ []))
+        ≡ stepState On (s .settings) (state (s .settings) answers (begun (s .settings)) (i .gone)) (lineLength s w) (answers (count + 1))
     unfolding state
     state-now =
         let c = s .settings in
-        let b = state c answers (opened c) (i .gone) in
-        state-append c answers (opened c) (i .gone) (line s w ∷ [])
+        let b = state c answers (begun c) (i .gone) in
+        state-append c answers (begun c) (i .gone) (line s w ∷ [])
         ∙ ap (λ k. stepState k c b (length (line s w)) (answers (b .lines + 1))) on-now
         ∙ ap₂ (λ n m. stepState On c b n (answers (m + 1))) (line-length s w (i .agree) (i .window-is) v) number-now
 
-    rows-now : rows (s .settings) answers (opened (s .settings)) (i .gone ++ (line s w ∷ []))
+    rows-now : rows (s .settings) answers (begun (s .settings)) (i .gone ++ (line s w ∷ []))
         ≡ given ++ answerRows s w (answers (count + 1))
     unfolding rows answerRows
     rows-now =
         let c = s .settings in
-        let b = state c answers (opened c) (i .gone) in
+        let b = state c answers (begun c) (i .gone) in
         let hit = answers (count + 1) in
         let len = lineLength s w in
         let step : stepRows (b .going) c b (length (line s w)) (answers (b .lines + 1)) ≡ stepRows On c (shown s w) len hit =
@@ -190,15 +183,15 @@ module _ (input : List ℕ) (answers : ℕ → Bool) (s : Session) (w rest : Lis
         ∙ ap (λ (t : State). stepRows On c t len hit) (sym (i .state-is))
         ∙ trim-stepRows On c (shown s w) len hit
         in
-        rows-append c answers (opened c) (i .gone) (line s w ∷ [])
+        rows-append c answers (begun c) (i .gone) (line s w ∷ [])
         ∙ ap₂ (λ (xs ys : List Row). xs ++ ys) (sym (i .rows-are)) (append-nil (stepRows (b .going) c b (length (line s w)) (answers (b .lines + 1))) ∙ step)
 
     shown-now : trim (s .settings) (shown (answerSession s w (answers (count + 1))) w)
-        ≡ trim (s .settings) (state (s .settings) answers (opened (s .settings)) (i .gone ++ (line s w ∷ [])))
+        ≡ trim (s .settings) (state (s .settings) answers (begun (s .settings)) (i .gone ++ (line s w ∷ [])))
     unfolding answerSession
     shown-now =
         let c = s .settings in
-        let b = state c answers (opened c) (i .gone) in
+        let b = state c answers (begun c) (i .gone) in
         let hit = answers (count + 1) in
         let len = lineLength s w in
         let whole = i .whole (omega (arith, length-append (unanswered s w) (text c rest), some-unanswered s w (i .agree) (i .window-is) v)) in

@@ -15,7 +15,7 @@ use Rattle.definition.specs.declared.Place.the-variants.{Nowhere}
 use Rattle.definition.specs.declared.Settings.{Settings}
 use Rattle.definition.specs.Definition.{Fate, match, after, other, norow, lastOf}
 use Rattle.definition.specs.Rows.{Row, rowSize}
-use Rattle.definition.specs.State.{State, fateOf, keptLines, opened, rows, state, trim}
+use Rattle.definition.specs.State.{State, fateOf, keptLines, begun, rows, state, trim}
 use Rattle.definition.specs.Text.{firstPlace, lines, upTo}
 use Rattle.definition.proofs.Kept.{before≤kept, since-counted, stepRows-most}
 use Rattle.definition.proofs.Lists.{length-lastOf}
@@ -44,9 +44,9 @@ use Rattle.session.proofs.Taking.{inv-taken}
 
 -- # Opening
 
-opened-counted : (c : Settings) → length (opened c .since) ≤ opened c .lines
-unfolding opened
-opened-counted c = omega arith
+begun-counted : (c : Settings) → length (begun c .since) ≤ begun c .lines
+unfolding begun
+begun-counted c = omega arith
 
 replaced-none : (k : Binary) (t : ℕ) → replacedIn k t 0 [] ≡ Nowhere
 unfolding firstPlace upTo
@@ -60,7 +60,7 @@ fitted-none P (x ∷ b) l m e = absurd (cons≢nil (sym e))
 
 inv-fresh : (input : List ℕ) (answers : ℕ → Bool) (c : Settings) (w : List ℕ) → opening c (length w) ≡ 0
     → Inv input answers (fresh c (length w)) w input 0 []
-unfolding unanswered shown sinceLines backFrom trim opened state rows lines flatten
+unfolding unanswered shown sinceLines backFrom trim begun state rows lines flatten
 inv-fresh input answers c w e =
     record {
       past = [];
@@ -128,10 +128,10 @@ module _ (input : List ℕ) (answers : ℕ → Bool) (s : Session) (w rest : Lis
   unfolding trim shown
   since-le =
       let c = s .settings in
-      let b = state c answers (opened c) (i .gone) in
+      let b = state c answers (begun c) (i .gone) in
       let kept : length (lastOf (keptLines c) (shown s w .since)) ≡ length (lastOf (keptLines c) (b .since)) = ap (λ (t : State). length (t .since)) (i .state-is) in
       let lines : s .lines ≡ b .lines = ap (λ (t : State). t .lines) (i .state-is) in
-      let counted = since-counted c answers (opened c) (i .gone) (opened-counted c) in
+      let counted = since-counted c answers (begun c) (i .gone) (begun-counted c) in
       omega (arith, kept, lines, counted, before≤kept c, length-lastOf (c .before) (shown s w .since), length-lastOf (keptLines c) (shown s w .since), length-lastOf (keptLines c) (b .since))
 
   before-le : (f : Fate) → beforeRows f (s .settings) (shown s w) ≤ s .lines

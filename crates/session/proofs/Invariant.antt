@@ -8,7 +8,7 @@ use lib.ListN.{length, length-append}
 use Rattle.definition.specs.declared.Settings.{Settings}
 use Rattle.definition.specs.Definition.{quitMet}
 use Rattle.definition.specs.Rows.{Row}
-use Rattle.definition.specs.State.{opened, rows, state, trim}
+use Rattle.definition.specs.State.{begun, rows, state, trim}
 use Rattle.definition.specs.Text.{lines, text}
 use Rattle.definition.proofs.Terminator.{Whole}
 use Rattle.definition.proofs.Uncut.{Uncut}
@@ -40,8 +40,8 @@ pub record Inv (input : List ℕ) (answers : ℕ → Bool) (s : Session) (w rest
   pub bytes-is : s .bytes ≡ length (flatten gone)
   pub lines-is : s .lines ≡ length gone
   pub count-is : count ≡ length gone
-  pub state-is : trim (s .settings) (shown s w) ≡ trim (s .settings) (state (s .settings) answers (opened (s .settings)) gone)
-  pub rows-are : given ≡ rows (s .settings) answers (opened (s .settings)) gone
+  pub state-is : trim (s .settings) (shown s w) ≡ trim (s .settings) (state (s .settings) answers (begun (s .settings)) gone)
+  pub rows-are : given ≡ rows (s .settings) answers (begun (s .settings)) gone
   pub lines-are : lines (s .settings .terminator) (text (s .settings) input)
       ≡ gone ++ lines (s .settings .terminator) (unanswered s w ++ text (s .settings) rest)
   pub whole : 0 < length (unanswered s w ++ text (s .settings) rest) → Whole (s .settings .terminator) (part (s .floor) (s .next) w)

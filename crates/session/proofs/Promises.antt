@@ -12,7 +12,7 @@ use Rattle.definition.specs.declared.Settings.{Settings}
 use Rattle.definition.specs.Definition.{endOf, endRecord, rowsOf}
 use Rattle.definition.specs.Laws.{finalState}
 use Rattle.definition.specs.Rows.{Row}
-use Rattle.definition.specs.State.{State, opened, rows, state, trim}
+use Rattle.definition.specs.State.{State, begun, rows, state, trim}
 use Rattle.definition.specs.Text.{firstPlace, handed, lines, text}
 use Rattle.definition.proofs.Kept.{rows-append}
 use Rattle.definition.proofs.Same.{same-end, same-rows}
@@ -47,14 +47,14 @@ module _ (input : List ℕ) (answers : ℕ → Bool) (s : Session) (w rest : Lis
     (i : Inv input answers s w rest count given) where
   -- the definition's rows are those given and those of the lines still to come
   rows-all : rowsOf (s .settings) input answers
-      ≡ given ++ rows (s .settings) answers (state (s .settings) answers (opened (s .settings)) (i .gone)) (lines (s .settings .terminator) (unanswered s w ++ text (s .settings) rest))
+      ≡ given ++ rows (s .settings) answers (state (s .settings) answers (begun (s .settings)) (i .gone)) (lines (s .settings .terminator) (unanswered s w ++ text (s .settings) rest))
   rows-all =
       let c = s .settings in
       let later = lines (c .terminator) (unanswered s w ++ text c rest) in
       same-rows c input answers
-      ∙ ap (rows c answers (opened c)) (i .lines-are)
-      ∙ rows-append c answers (opened c) (i .gone) later
-      ∙ ap (λ (xs : List Row). xs ++ rows c answers (state c answers (opened c) (i .gone)) later) (sym (i .rows-are))
+      ∙ ap (rows c answers (begun c)) (i .lines-are)
+      ∙ rows-append c answers (begun c) (i .gone) later
+      ∙ ap (λ (xs : List Row). xs ++ rows c answers (state c answers (begun c) (i .gone)) later) (sym (i .rows-are))
 
   finished-inv : recorded s .refusal ≡ 0 → (given ≡ rowsOf (s .settings) input answers) × (recorded s .end ≡ endOf (s .settings) input answers)
   unfolding finalState trim shown
@@ -124,10 +124,10 @@ module _ (c : Settings) (input : List ℕ) (answers : ℕ → Bool) (a : At) (r 
 
 -- the facts of the room rule, for the settings that a run was opened with
 module _ (c : Settings) (input : List ℕ) (answers : ℕ → Bool) (a : At) (r : Run c input answers a) where
-  run-too-long : NoRoom a → (t : TooLong c input answers (length (a .window)) (a .count)) × (a .rows ≡ rows c answers (opened c) (t .before))
+  run-too-long : NoRoom a → (t : TooLong c input answers (length (a .window)) (a .count)) × (a .rows ≡ rows c answers (begun c) (t .before))
   run-too-long n =
       let i = inv-run c input answers a r in
-      subst (λ x. (t : TooLong x input answers (length (a .window)) (a .count)) × (a .rows ≡ rows x answers (opened x) (t .before)))
+      subst (λ x. (t : TooLong x input answers (length (a .window)) (a .count)) × (a .rows ≡ rows x answers (begun x) (t .before)))
       (run-settings c input answers a r)
       (too-long input answers (a .session) (a .window) (a .rest) (a .count) (a .rows) i (n .0) (n .1))
 

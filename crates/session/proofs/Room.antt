@@ -11,7 +11,7 @@ use borrow.Author.Tests.{ltb-false}
 use Rattle.definition.specs.declared.Going.the-variants.{On}
 use Rattle.definition.specs.declared.Settings.{Settings}
 use Rattle.definition.specs.Rows.{Row}
-use Rattle.definition.specs.State.{State, opened, rows, state}
+use Rattle.definition.specs.State.{State, begun, rows, state}
 use Rattle.definition.specs.Text.{firstPlace, lines, text}
 use Rattle.definition.proofs.Kept.{state-append, state-stopped}
 use Rattle.definition.proofs.Terminator.{first-append-none, firstLength, lines-head}
@@ -81,7 +81,7 @@ module _ (input : List ℕ) (answers : ℕ → Bool) (s : Session) (w rest : Lis
       ltb-false p (length u) (or-left (ltb p (length u)) (not (isOpen (s .input)) && ltb 0 (length u)) e)
 
   pub too-long : (k : ℕ) → offered s w (take k rest) .refusal ≡ 3
-      → (t : TooLong (s .settings) input answers (length w) count) × (given ≡ rows (s .settings) answers (opened (s .settings)) (t .before))
+      → (t : TooLong (s .settings) input answers (length w) count) × (given ≡ rows (s .settings) answers (begun (s .settings)) (t .before))
   unfolding offered
   too-long k e =
       let c = s .settings in
@@ -135,9 +135,9 @@ module _ (input : List ℕ) (answers : ℕ → Bool) (s : Session) (w rest : Lis
       (sym (i .lines-are) ∙ t .lines-are) (omega (arith, not-past n c h t, i .count-is, t .count-is))
       in
       let k = s .settings in
-      let b = state k answers (opened k) (i .gone) in
+      let b = state k answers (begun k) (i .gone) in
       let off : b .going ≡ On → ⊥ = λ e. g (going-is input answers s w rest count given i ∙ e) in
-      let same : state k answers (opened k) (t .before) ≡ b =
-      ap (state k answers (opened k)) (m .1) ∙ state-append k answers (opened k) (i .gone) (m .0) ∙ state-stopped k answers b (m .0) off
+      let same : state k answers (begun k) (t .before) ≡ b =
+      ap (state k answers (begun k)) (m .1) ∙ state-append k answers (begun k) (i .gone) (m .0) ∙ state-stopped k answers b (m .0) off
       in
       off (ap (λ (x : State). x .going) (sym same) ∙ t .reached)
