@@ -12,10 +12,10 @@ use Rattle.definition.specs.declared.Going.{Going}
 use Rattle.definition.specs.declared.Going.the-variants.{On, LimitMet, NonmatchMet}
 use Rattle.definition.specs.declared.Settings.{Settings}
 use Rattle.definition.specs.Bounds.{contextual}
-use Rattle.definition.specs.Definition.{Fate, match, after, other, norow, lastOf}
+use Rattle.definition.specs.Definition.{Fate, match, after, other, norow, lastOf, keptLines}
 use Rattle.definition.specs.Laws.{RowsBegin, KeptEnough, TrimRows, TrimState}
 use Rattle.definition.specs.Rows.{Line, Row, row, break, beforeKind, matchKind}
-use Rattle.definition.specs.State.{State, nextLine, breaks, rowsFor, stateNext, fateOf, stepRows, stepState, state, rows, keptLines, trim, keptRows}
+use Rattle.definition.specs.State.{State, nextLine, breaks, rowsFor, stateNext, fateOf, stepRows, stepState, state, rows, trim, keptRows}
 use Rattle.definition.proofs.Lists.{lastOf-trim-append, length-lastOf, lastOf-lastOf}
 
 -- # A beginning of the lines

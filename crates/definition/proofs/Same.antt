@@ -14,10 +14,10 @@ use Rattle.definition.specs.declared.Going.{Going}
 use Rattle.definition.specs.declared.Going.the-variants.{On, LimitMet, NonmatchMet}
 use Rattle.definition.specs.declared.Settings.{Settings}
 use Rattle.definition.specs.Bounds.{contextual}
-use Rattle.definition.specs.Definition.{Fate, match, after, other, norow, fate, selected, afterLeftNext, matchesNext, isMatch, goingNext, lastOf, rowless, between, lastNumber, give, ownRows, Gone, start, goneNext, goThrough, walk, linesOf, gone, bytesOf, endRecord, rowsOf, endOf}
-use Rattle.definition.specs.Laws.{SameRows, SameEnd, EmptyText, finalState}
+use Rattle.definition.specs.Definition.{Fate, match, after, other, norow, fate, selected, afterLeftNext, matchesNext, isMatch, goingNext, lastOf, rowless, between, lastNumber, give, ownRows, Gone, start, goneNext, goThrough, walk, goneLines, gone, keptLines, sinceLast, keptPart, bytesOf, endRecord, rowsOf, endOf}
+use Rattle.definition.specs.Laws.{SameLines, SameRows, SameEnd, EmptyText, finalState}
 use Rattle.definition.specs.Rows.{Line, Row, row, break, placed, matchKind, beforeKind, afterKind, otherKind}
-use Rattle.definition.specs.State.{State, begun, nextLine, breaks, rowsFor, stateNext, givenNext, sinceNext, fateOf, stepRows, stepState, state, rows}
+use Rattle.definition.specs.State.{State, begun, nextLine, breaks, rowsFor, stateNext, givenNext, sinceNext, fateOf, stepRows, stepState, state, rows, trim}
 use Rattle.definition.specs.Text.{lines, text}
 use Rattle.definition.proofs.Fates.{FateCase, selects, owes, passes, skips, fate-case}
 use Rattle.definition.proofs.Given.{Numbered, numbered-append, numbered-join, AtMost, at-most-join, at-most-more, at-most-rows, lastNumber-append, own-row, keeps-left, keeps-right, rowless-append, rowless-later, Covered, covered-more, covered-drop, covered-given, covered-snoc, between-append, between-before, between-behind, between-inside, follow-rows, give-next, gap, give-gap}
@@ -354,18 +354,44 @@ same c answers (l ∷ ls) g s a = go (s .going) refl (same c answers ls)
     go LimitMet e ih = same-stopped c answers g s (l ∷ ls) a (λ h. let z : _≡_ {A = ℕ} 0 1 = cc in omega arith)
     go NonmatchMet e ih = same-stopped c answers g s (l ∷ ls) a (λ h. let z : _≡_ {A = ℕ} 0 1 = cc in omega arith)
 
+same-begun : (c : Settings) (answers : ℕ → Bool) (ls : List (List ℕ)) → Same c answers (start c) (begun c) ls
+same-begun c answers ls = same c answers ls (start c) (begun c) (agree-start c)
+
+-- the lines after the last line with a row
+since-is : (c : Settings) (g : Gone) (s : State) → Agree c g s → sinceLast g ≡ s .since
+unfolding sinceLast
+since-is c g s a =
+    let n = length (a .done) in
+    let b = n + length (s .since) + 1 in
+    let size : length (g .seen) + 1 ≡ b = omega (arith, ap length (a .seen-is), length-append (a .done) (s .since)) in
+    let parts = numbered-append 1 (a .done) (s .since) (rw (a .seen-is) at (a .numbers)) in
+    rw (
+      a .last-is,
+      size,
+      a .seen-is,
+      between-append n b (a .done) (s .since),
+      between-before n b 1 (a .done) (parts .0) (omega arith),
+      between-inside n b (1 + n) (s .since) (parts .1) (omega arith) (omega arith),
+    )
+
+pub same-lines : SameLines
+unfolding goneLines keptPart trim start begun
+same-lines c answers ls =
+    let r = same-begun c answers ls in
+    (r .0, r .1 .going-is, ap (lastOf (keptLines c)) (since-is c (goneLines c answers ls) (state c answers (begun c) ls) (r .1)))
+
 pub same-rows : SameRows
-unfolding rowsOf gone linesOf begun start
-same-rows c input answers = same c answers (lines (c .terminator) (text c input)) (start c) (begun c) (agree-start c) .0
+unfolding rowsOf gone
+same-rows c input answers = same-lines c answers (lines (c .terminator) (text c input)) .0
 
 pub same-end : SameEnd
-unfolding endOf gone linesOf begun start finalState
+unfolding endOf gone goneLines begun start finalState
 same-end c input answers =
-    let a = same c answers (lines (c .terminator) (text c input)) (start c) (begun c) (agree-start c) .1 in
+    let a = same-begun c answers (lines (c .terminator) (text c input)) .1 in
     rw (a .bytes-is, a .lines-is, a .matches-is, a .going-is)
 
 pub empty-text : EmptyText
-unfolding rowsOf endOf gone linesOf start lines placed walk bytesOf
+unfolding rowsOf endOf gone goneLines start lines placed walk bytesOf
 empty-text c input answers e =
     let run : List ℕ → Gone = λ bytes. walk c answers (start c) (placed 0 1 (lines (c .terminator) bytes)) in (
       ap (λ bytes. run bytes .rows) e,

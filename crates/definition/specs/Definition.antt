@@ -145,11 +145,26 @@ unfoldable pub walk : Settings → (ℕ → Bool) → Gone → List Line → Gon
 walk c answers g [] = g
 walk c answers g (l ∷ ls) = walk c answers (goThrough (g .going) c g l (answers (l .number))) ls
 
-unfoldable pub linesOf : Settings → List ℕ → List Line
-linesOf c input = placed 0 1 (lines (c .terminator) (text c input))
+-- what some lines, from the first on, have left behind
+unfoldable pub goneLines : Settings → (ℕ → Bool) → List (List ℕ) → Gone
+goneLines c answers ls = walk c answers (start c) (placed 0 1 ls)
 
 unfoldable pub gone : Settings → List ℕ → (ℕ → Bool) → Gone
-gone c input answers = walk c answers (start c) (linesOf c input)
+gone c input answers = goneLines c answers (lines (c .terminator) (text c input))
+
+-- # The kept part
+
+-- 01, "Kept part": "with B = A = 0 nothing; otherwise the last B + 1 lines .."
+unfoldable pub keptLines : Settings → ℕ
+keptLines c = cond (contextual c) (c .before + 1) 0
+
+-- the lines gone through after the last line with a row
+unfoldable pub sinceLast : Gone → List Line
+sinceLast g = between (lastNumber 0 (g .rows)) (length (g .seen) + 1) (g .seen)
+
+-- ".. but only those after the last line with a row"
+unfoldable pub keptPart : Settings → Gone → List Line
+keptPart c g = lastOf (keptLines c) (sinceLast g)
 
 -- # The end record
 

@@ -5,7 +5,7 @@ use mathlib.Core.Bool.{Bool, false}
 use mathlib.Core.List.{List, [], _∷_, _++_, flatten}
 use lib.ListN.{length, take, drop}
 use Rattle.definition.specs.declared.Settings.{Settings}
-use Rattle.definition.specs.Definition.{endRecord, goingNext, rowsOf, endOf}
+use Rattle.definition.specs.Definition.{endRecord, goingNext, goneLines, keptPart, rowsOf, endOf}
 use Rattle.definition.specs.State.{State, begun, state, rows, trim, keptRows}
 use Rattle.definition.specs.Text.{firstPlace, handed, lines, replaced, text}
 
@@ -25,6 +25,14 @@ SameEnd =
     (c : Settings) (input : List ℕ) (answers : ℕ → Bool)
     → let s = finalState c input answers in
     endOf c input answers ≡ endRecord c input (s .bytes) (s .lines) (s .matches) (s .going)
+
+-- The same after any lines: the rows, how the run stands, and the kept part (Same.same-lines).
+abbrev pub SameLines : Type 0
+SameLines =
+    (c : Settings) (answers : ℕ → Bool) (ls : List (List ℕ))
+    → (goneLines c answers ls .rows ≡ rows c answers (begun c) ls)
+    × (goneLines c answers ls .going ≡ state c answers (begun c) ls .going)
+    × (keptPart c (goneLines c answers ls) ≡ trim c (state c answers (begun c) ls) .since)
 
 -- The rows of a beginning of the lines are a beginning of the rows (Kept.rows-append).
 abbrev pub RowsBegin : Type 0

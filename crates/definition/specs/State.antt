@@ -9,7 +9,7 @@ use Rattle.definition.specs.declared.Going.{Going}
 use Rattle.definition.specs.declared.Going.the-variants.{On, LimitMet, NonmatchMet}
 use Rattle.definition.specs.declared.Settings.{Settings}
 use Rattle.definition.specs.Bounds.{contextual}
-use Rattle.definition.specs.Definition.{Fate, match, after, other, norow, fate, selected, afterLeftNext, matchesNext, isMatch, goingNext, lastOf}
+use Rattle.definition.specs.Definition.{Fate, match, after, other, norow, fate, selected, afterLeftNext, matchesNext, isMatch, goingNext, keptLines, lastOf}
 use Rattle.definition.specs.Rows.{Line, Row, row, break, matchKind, beforeKind, afterKind, otherKind}
 
 pub record State : Type 0 where
@@ -100,10 +100,7 @@ rows c answers s (l ∷ ls) =
     stepRows (s .going) c s (length l) (answers (s .lines + 1))
     ++ rows c answers (stepState (s .going) c s (length l) (answers (s .lines + 1))) ls
 
--- 01, "Kept part": "with B = A = 0 nothing; otherwise the last B + 1 lines .., but only those after the last line with a row"
-unfoldable pub keptLines : Settings → ℕ
-keptLines c = cond (contextual c) (c .before + 1) 0
-
+-- with all lines forgotten but the kept ones
 unfoldable pub trim : Settings → State → State
 trim c s =
     record {

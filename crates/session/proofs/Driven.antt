@@ -3,8 +3,8 @@ use mathlib.Core.Path.{refl}
 use mathlib.Core.Bool.{xor}
 use mathlib.Core.List.{flatten}
 use Rattle.definition.specs.Bounds.{allowed, contextual}
-use Rattle.definition.specs.Definition.{selected, fate, goingNext, lastOf}
-use Rattle.definition.specs.State.{nextLine, breaks, stateNext, fateOf, keptLines}
+use Rattle.definition.specs.Definition.{selected, fate, goingNext, lastOf, keptLines}
+use Rattle.definition.specs.State.{nextLine, breaks, stateNext, fateOf}
 use Rattle.definition.specs.Text.{upTo, firstPlace, replaced, text, onto, lines}
 use Rattle.session.specs.Calls.{opening, opened, beforeQuit, idle, quitFront, fitting, taking, offering, stored, storedWindow, offered, offeredWindow, waiting, shownLine, answerRows, belowOne, answering, stepped, answerSession, putRows, answered, answeredTable, toldSession, told, remains, recording, recordedPlace, recordOf, recorded}
 use Rattle.session.specs.Driven.{Plays, Table}

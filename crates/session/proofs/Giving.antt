@@ -11,11 +11,12 @@ use Rattle.definition.specs.declared.Binary.{Binary}
 use Rattle.definition.specs.declared.Binary.the-variants.{Ignore, Quit, Convert}
 use Rattle.definition.specs.declared.Going.the-variants.{On}
 use Rattle.definition.specs.declared.Settings.{Settings}
-use Rattle.definition.specs.Definition.{Fate, match, after, other, norow, bytesOf, lastOf}
+use Rattle.definition.specs.Definition.{Fate, match, after, other, norow, bytesOf, lastOf, keptLines}
 use Rattle.definition.specs.Rows.{Row, flat}
-use Rattle.definition.specs.State.{State, fateOf, keptLines, nextLine, begun, rows, state, stateNext, stepRows, stepState, trim}
+use Rattle.definition.specs.State.{State, fateOf, nextLine, begun, rows, state, stateNext, stepRows, stepState, trim}
 use Rattle.definition.specs.Text.{firstPlace, lines, replaced, text, textUnder, upTo}
 use Rattle.definition.proofs.Kept.{rows-append, state-append, trim-stepRows, trim-stepState}
+use Rattle.definition.proofs.Same.{same-lines}
 use Rattle.definition.proofs.Terminator.{lines-next, lines-one, Whole, whole-append, whole-line, whole-none}
 use Rattle.session.specs.declared.Input.{Input}
 use Rattle.session.specs.declared.Input.the-variants.{Open, Ended, QuitFound}
@@ -135,7 +136,8 @@ module _ (input : List ℕ) (answers : ℕ → Bool) (s : Session) (w rest : Lis
   pub kept-before : keptBefore (s .settings) answers (i .gone) ≡ keptBytes s w
   unfolding keptBefore keptBytes trim shown
   kept-before =
-      ap (λ (t : State). bytesOf (t .since)) (sym (i .state-is))
+      ap bytesOf (same-lines (s .settings) answers (i .gone) .2)
+      ∙ ap (λ (t : State). bytesOf (t .since)) (sym (i .state-is))
       ∙ ap bytesOf (backFrom-last (keptLines (s .settings)) (s .bytes) (s .lines + 1) (sinceLines s w))
       ∙ backFrom-bytes (s .bytes) (s .lines + 1) (lastOf (keptLines (s .settings)) (sinceLines s w))
 

@@ -13,9 +13,9 @@ use Rattle.definition.specs.declared.Going.{Going}
 use Rattle.definition.specs.declared.Going.the-variants.{On, LimitMet, NonmatchMet}
 use Rattle.definition.specs.declared.Place.the-variants.{Nowhere}
 use Rattle.definition.specs.declared.Settings.{Settings}
-use Rattle.definition.specs.Definition.{Fate, match, after, other, norow, lastOf}
+use Rattle.definition.specs.Definition.{Fate, match, after, other, norow, lastOf, keptLines}
 use Rattle.definition.specs.Rows.{Row, rowSize}
-use Rattle.definition.specs.State.{State, fateOf, keptLines, begun, rows, state, trim}
+use Rattle.definition.specs.State.{State, fateOf, begun, rows, state, trim}
 use Rattle.definition.specs.Text.{firstPlace, lines, upTo}
 use Rattle.definition.proofs.Kept.{before≤kept, since-counted, stepRows-most}
 use Rattle.definition.proofs.Lists.{length-lastOf}

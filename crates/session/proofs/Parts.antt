@@ -5,8 +5,7 @@ use mathlib.Core.List.{List, [], _∷_, _++_, append-assoc, flatten}
 use native.Mathlib.Omega.{arith}
 use lib.ListN.{length, take, drop, length-append, length-take, length-drop, take-append-drop}
 use lib.Seq.{drop-drop, take-add, take-nil, drop-at}
-use Rattle.definition.specs.Definition.{bytesOf, lastOf}
-use Rattle.definition.specs.State.{keptLines}
+use Rattle.definition.specs.Definition.{bytesOf, lastOf, keptLines}
 use Rattle.definition.specs.Text.{lines}
 use Rattle.definition.proofs.Terminator.{lines-whole}
 use Rattle.session.specs.declared.Session.{Session}

@@ -9,7 +9,7 @@ use native.Mathlib.Omega.{arith}
 use lib.ListN.{length, take, drop, length-take}
 use lib.Seq.{take-take}
 use Rattle.definition.specs.declared.Settings.{Settings}
-use Rattle.definition.specs.Definition.{endOf, endRecord, rowsOf}
+use Rattle.definition.specs.Definition.{endOf, endRecord, goneLines, rowsOf}
 use Rattle.definition.specs.Laws.{finalState}
 use Rattle.definition.specs.Rows.{Row}
 use Rattle.definition.specs.State.{State, begun, rows, state, trim}
@@ -124,10 +124,10 @@ module _ (c : Settings) (input : List ℕ) (answers : ℕ → Bool) (a : At) (r 
 
 -- the facts of the room rule, for the settings that a run was opened with
 module _ (c : Settings) (input : List ℕ) (answers : ℕ → Bool) (a : At) (r : Run c input answers a) where
-  run-too-long : NoRoom a → (t : TooLong c input answers (length (a .window)) (a .count)) × (a .rows ≡ rows c answers (begun c) (t .before))
+  run-too-long : NoRoom a → (t : TooLong c input answers (length (a .window)) (a .count)) × (a .rows ≡ goneLines c answers (t .before) .rows)
   run-too-long n =
       let i = inv-run c input answers a r in
-      subst (λ x. (t : TooLong x input answers (length (a .window)) (a .count)) × (a .rows ≡ rows x answers (begun x) (t .before)))
+      subst (λ x. (t : TooLong x input answers (length (a .window)) (a .count)) × (a .rows ≡ goneLines x answers (t .before) .rows))
       (run-settings c input answers a r)
       (too-long input answers (a .session) (a .window) (a .rest) (a .count) (a .rows) i (n .0) (n .1))
 

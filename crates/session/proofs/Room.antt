@@ -10,10 +10,12 @@ use lib.ListN.{length, take, drop, length-append, length-take}
 use borrow.Author.Tests.{ltb-false}
 use Rattle.definition.specs.declared.Going.the-variants.{On}
 use Rattle.definition.specs.declared.Settings.{Settings}
+use Rattle.definition.specs.Definition.{goneLines}
 use Rattle.definition.specs.Rows.{Row}
 use Rattle.definition.specs.State.{State, begun, rows, state}
 use Rattle.definition.specs.Text.{firstPlace, lines, text}
 use Rattle.definition.proofs.Kept.{state-append, state-stopped}
+use Rattle.definition.proofs.Same.{same-lines}
 use Rattle.definition.proofs.Terminator.{first-append-none, firstLength, lines-head}
 use Rattle.session.specs.declared.Session.{Session}
 use Rattle.session.specs.Calls.{idle, offered}
@@ -81,7 +83,7 @@ module _ (input : List ℕ) (answers : ℕ → Bool) (s : Session) (w rest : Lis
       ltb-false p (length u) (or-left (ltb p (length u)) (not (isOpen (s .input)) && ltb 0 (length u)) e)
 
   pub too-long : (k : ℕ) → offered s w (take k rest) .refusal ≡ 3
-      → (t : TooLong (s .settings) input answers (length w) count) × (given ≡ rows (s .settings) answers (begun (s .settings)) (t .before))
+      → (t : TooLong (s .settings) input answers (length w) count) × (given ≡ goneLines (s .settings) answers (t .before) .rows)
   unfolding offered
   too-long k e =
       let c = s .settings in
@@ -103,11 +105,11 @@ module _ (input : List ℕ) (answers : ℕ → Bool) (s : Session) (w rest : Lis
           later = lines t (drop n (u ++ v));
           lines-are = i .lines-are ∙ ap (λ xs. i .gone ++ xs) (lines-head t (u ++ v) (omega arith));
           count-is = sym (i .count-is);
-          reached = sym (going-is input answers s w rest count given i) ∙ idle .2;
+          reached = same-lines c answers (i .gone) .1 ∙ sym (going-is input answers s w rest count given i) ∙ idle .2;
           fitted = subst (λ m. Fitted c answers m (i .gone)) (sym (i .window-is)) (i .fitted);
           exceeds = over s w (f .3) (length w) (keptBefore c answers (i .gone)) (length (take n (u ++ v))) (i .window-is) kept (omega (arith, first, long, joined, size, some));
         },
-        i .rows-are,
+        i .rows-are ∙ sym (same-lines c answers (i .gone) .0),
       )
 
   -- # No run gets past
@@ -140,4 +142,4 @@ module _ (input : List ℕ) (answers : ℕ → Bool) (s : Session) (w rest : Lis
       let same : state k answers (begun k) (t .before) ≡ b =
       ap (state k answers (begun k)) (m .1) ∙ state-append k answers (begun k) (i .gone) (m .0) ∙ state-stopped k answers b (m .0) off
       in
-      off (ap (λ (x : State). x .going) (sym same) ∙ t .reached)
+      off (ap (λ (x : State). x .going) (sym same) ∙ sym (same-lines k answers (t .before) .1) ∙ t .reached)

@@ -12,9 +12,9 @@ use borrow.Author.Tests.{eqb-true, le-ltb, lt-ltb, ltb-true}
 use Rattle.definition.specs.declared.Binary.{Binary}
 use Rattle.definition.specs.declared.Binary.the-variants.{Ignore, Quit, Convert}
 use Rattle.definition.specs.declared.Place.the-variants.{Nowhere, At}
-use Rattle.definition.specs.Definition.{lastOf, quitMet}
+use Rattle.definition.specs.Definition.{lastOf, quitMet, keptLines}
 use Rattle.definition.specs.Rows.{Row}
-use Rattle.definition.specs.State.{keptLines, trim}
+use Rattle.definition.specs.State.{trim}
 use Rattle.definition.specs.Text.{firstPlace, lines, text, textUnder, upTo}
 use Rattle.definition.proofs.Lists.{lastOf-lastOf}
 use Rattle.definition.proofs.Terminator.{first-append, first-append-none, first-le, lines-drop, Whole, whole-drop}

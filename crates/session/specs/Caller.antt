@@ -1,5 +1,6 @@
--- The promises to any caller: no rule at all is kept, and the window may be altered at will between calls. Each is a statement; the
--- proof of the same name stands in proofs/Caller.antt. Every call is a function of its arguments, so each has exactly one outcome.
+-- The promises to any caller: no rule at all is kept, and the window may be altered at will between calls. Each is a statement; its
+-- proof, under the same name in small letters, stands in proofs/Caller.antt. Every call is a function of its arguments, so each has
+-- exactly one outcome.
 use Prim.Native.Nat.{ℕ, _+_, _*_, _≤_, _<_}
 use mathlib.Core.Path.{_≡_}
 use mathlib.Core.Bool.{Bool, true, false, cond}

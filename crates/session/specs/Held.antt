@@ -7,9 +7,9 @@ use lib.Dec.{ltb}
 use lib.ListN.{length, take, drop}
 use Rattle.definition.specs.declared.Going.{Going}
 use Rattle.definition.specs.declared.Going.the-variants.{On, LimitMet, NonmatchMet}
-use Rattle.definition.specs.Definition.{lastOf}
+use Rattle.definition.specs.Definition.{lastOf, keptLines}
 use Rattle.definition.specs.Rows.{Line}
-use Rattle.definition.specs.State.{State, keptLines}
+use Rattle.definition.specs.State.{State}
 use Rattle.definition.specs.Text.{firstPlace, lines}
 use Rattle.session.specs.declared.Input.{Input}
 use Rattle.session.specs.declared.Input.the-variants.{Open, Ended, QuitFound}

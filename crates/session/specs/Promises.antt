@@ -1,4 +1,5 @@
--- The promises to the caller of demand 3, over every run. Each is a statement; the proof of the same name stands in proofs/Promises.antt.
+-- The promises to the caller of demand 3, over every run. Each is a statement; its proof, under the same name in small letters
+-- (`handed-line` for Handed), stands in proofs/Promises.antt.
 use Prim.Native.Nat.{ℕ, _+_, _*_, _≤_, _<_}
 use mathlib.Core.Path.{_≡_}
 use mathlib.Core.Bool.{Bool}
@@ -8,9 +9,8 @@ use lib.ListN.{length, take}
 use Rattle.definition.specs.declared.Going.the-variants.{On}
 use Rattle.definition.specs.declared.Settings.{Settings}
 use Rattle.definition.specs.Bounds.{maxInput}
-use Rattle.definition.specs.Definition.{bytesOf, endOf, rowsOf}
+use Rattle.definition.specs.Definition.{bytesOf, endOf, goneLines, keptPart, rowsOf}
 use Rattle.definition.specs.Rows.{Row, rowSize}
-use Rattle.definition.specs.State.{begun, rows, state, trim}
 use Rattle.definition.specs.Text.{handed, lines, text}
 use Rattle.session.specs.declared.Waiting.the-variants.{Line, NotAsked}
 use Rattle.session.specs.Calls.{answered, offered, recorded, shownLine, told, waiting}
@@ -65,7 +65,7 @@ Handed =
 
 -- "kept bytes before j": of the lines before a line, the bytes of those kept
 unfoldable pub keptBefore : Settings → (ℕ → Bool) → List (List ℕ) → ℕ
-keptBefore c answers before = bytesOf (trim c (state c answers (begun c) before) .since)
+keptBefore c answers before = bytesOf (keptPart c (goneLines c answers before))
 
 -- every one of some lines, with the lines kept before it, fitted into a window
 abbrev pub Fitted : Settings → (ℕ → Bool) → ℕ → List (List ℕ) → Type 0
@@ -81,7 +81,7 @@ pub record TooLong (c : Settings) (input : List ℕ) (answers : ℕ → Bool) (w
   pub later : List (List ℕ)
   pub lines-are : lines (c .terminator) (text c input) ≡ before ++ (line ∷ later)
   pub count-is : length before ≡ count
-  pub reached : state c answers (begun c) before .going ≡ On
+  pub reached : goneLines c answers before .going ≡ On
   pub fitted : Fitted c answers window before
   pub exceeds : window < keptBefore c answers before + length line
 
@@ -91,7 +91,7 @@ pub record Exactly (c : Settings) (input : List ℕ) (answers : ℕ → Bool) (a
   -- fitted, and the rows given by then are those of the lines before it.
   pub only :
       NoRoom a
-      → (t : TooLong c input answers (length (a .window)) (a .count)) × (a .rows ≡ rows c answers (begun c) (t .before))
+      → (t : TooLong c input answers (length (a .window)) (a .count)) × (a .rows ≡ goneLines c answers (t .before) .rows)
   -- Where there is such a line, no run gets past it, ..
   pub never-past : (count : ℕ) → TooLong c input answers (length (a .window)) count → a .count ≤ count
   -- .. and every run can be carried on to where it is refused by 3 there.
