@@ -24,7 +24,7 @@ use Rattle.session.specs.declared.Input.the-variants.{Open, Ended, QuitF
 use Rattle.session.specs.declared.Offering.{Offering}
 use Rattle.session.specs.declared.Session.{Session}
 use Rattle.session.specs.declared.Waiting.{Waiting}
-use Rattle.session.specs.declared.Waiting.the-variants.{Line, NoLine, NotAsked}
+use Rattle.session.specs.declared.Waiting.the-variants.{LineWaits, NoneWaits, WaitingRefused}
 use Rattle.session.specs.Calls.{answerAnswer, answerRows, answerSession, answerTable, answered, answeredTable, answering, beforeQuit, belowOne, fitting, idle, inputTold, offerAnswer, offerWindow, offered, offeredWindow, offering, opened, opening, putRows, quitFront, recorded, recording, remains, shownLine, shownWhere, stepped, stored, storedWindow, taking, told, toldSession, waiting}
 use Rattle.session.specs.Caller.{waitingIn, unfinishedIn, waitingBytes, unfinishedBytes, wholeBytes, loneBytes, Reached, opens, offers, answers, tells, Agreeing, Answers, Balance, NothingTwice, Offers, Others, Plain, Progress, RefusalsChangeNothing, RowsStay, WhenAndOnlyThen, WindowStays}
 use Rattle.session.specs.Held.{heldBytes, isOn, isOpen, keptFrom, lineBytes, shown, unanswered, waits}
@@ -74,10 +74,10 @@ tell-unchanged : (b : Bool) (s : Session) → (_≡_ {A = ℕ} (cond b 0 6) 0 �
 tell-unchanged true s h = absurd (h refl)
 tell-unchanged false s h = refl
 
-part-unshown : (k : Waiting) (s : Session) (w : List ℕ) → (k ≡ Line → ⊥) → shownWhere k s w ≡ []
-part-unshown Line s w h = absurd (h refl)
-part-unshown NoLine s w h = refl
-part-unshown NotAsked s w h = refl
+part-unshown : (k : Waiting) (s : Session) (w : List ℕ) → (k ≡ LineWaits → ⊥) → shownWhere k s w ≡ []
+part-unshown LineWaits s w h = absurd (h refl)
+part-unshown NoneWaits s w h = refl
+part-unshown WaitingRefused s w h = refl
 
 closed-unsound : (n : ℕ) → sound closed n ≡ false
 unfolding sound agrees tests allowed contextual
@@ -257,7 +257,7 @@ others-when : (s : Session) (w : List ℕ) (c : Settings) (window : ℕ) → Oth
 unfolding opened opening waiting told recorded recording
 others-when s w c window =
     let o = chosen {A = ℕ} 0 2 1 (λ e. omega (arith, e)) (λ e. omega (arith, e)) (λ e. omega (arith, e)) (allowed c) (ltb 0 window && leb window maxWindow) in
-    let q = chosen Line NoLine NotAsked (λ e. let z : _≡_ {A = ℕ} 0 1 = cc in omega arith) (λ e. let z : _≡_ {A = ℕ} 0 1 = cc in omega arith)
+    let q = chosen LineWaits NoneWaits WaitingRefused (λ e. let z : _≡_ {A = ℕ} 0 1 = cc in omega arith) (λ e. let z : _≡_ {A = ℕ} 0 1 = cc in omega arith)
     (λ e. let z : _≡_ {A = ℕ} 0 1 = cc in omega arith) (sound s (length w)) (waits s w)
     in
     let t = chosen {A = ℕ} 0 7 6 (λ e. omega (arith, e)) (λ e. omega (arith, e)) (λ e. omega (arith, e)) (agrees s) true in

@@ -19,7 +19,7 @@ use Rattle.session.specs.declared.Input.{Input}
 use Rattle.session.specs.declared.Input.the-variants.{Open, Ended, QuitFound}
 use Rattle.session.specs.declared.Offering.{Offering}
 use Rattle.session.specs.declared.Session.{Session}
-use Rattle.session.specs.declared.Waiting.the-variants.{Line}
+use Rattle.session.specs.declared.Waiting.the-variants.{LineWaits}
 use Rattle.session.specs.Calls.{answerAnswer, answerSession, answered, beforeQuit, fitting, idle, inputTold, offerAnswer, offered, quitFront, recorded, recording, remains, stepped, stored, taking, told, toldSession, waiting}
 use Rattle.session.specs.Held.{heldBytes, isOn, isOpen, keptFrom, lineBytes, unanswered, waits}
 use Rattle.session.specs.Promises.{Ends, NoRoom, Within}
@@ -187,7 +187,7 @@ module _ (input : List ℕ) (answers : ℕ → Bool) (s : Session) (w rest : Lis
   unfolding recorded recording
   ends-now e = rw (agrees-of s (i .agree), e)
 
-  pub waiting-now : waits s w ≡ true → waiting s w ≡ Line
+  pub waiting-now : waits s w ≡ true → waiting s w ≡ LineWaits
   unfolding waiting
   waiting-now v = rw (sound-now, v)
 

@@ -27,7 +27,7 @@ use Rattle.session.specs.declared.Input.the-variants.{Open, Ended, QuitF
 use Rattle.session.specs.declared.Offering.{Offering}
 use Rattle.session.specs.declared.Offering.the-variants.{OfferRefused, Idle, Take}
 use Rattle.session.specs.declared.Session.{Session}
-use Rattle.session.specs.declared.Waiting.the-variants.{Line, NoLine, NotAsked}
+use Rattle.session.specs.declared.Waiting.the-variants.{LineWaits, NoneWaits, WaitingRefused}
 use Rattle.session.specs.Calls as Calls
 use Rattle.session.specs.Calls.{answerAnswer, answerRows, answerSession, answerTable, answered, answeredTable, beforeRows, belowOne, answering, fitting, fresh, inputTold, offerAnswer, offerWindow, offered, offeredWindow, offering, opening, putRows, replacedIn, stepped, stored, taking, told, toldSession, waiting}
 use Rattle.session.specs.Held.{backFrom, shown, sinceLines, unanswered, waits}
@@ -91,11 +91,11 @@ unfolding putRows
 rowsIn-table rs table = rowsIn-put rs (drop (rowSize * length rs) table)
 
 -- a line is told to wait only where it does, to a sound session
-pub waiting-line : (s : Session) (w : List ℕ) → waiting s w ≡ Line → (sound s (length w) ≡ true) × (waits s w ≡ true)
+pub waiting-line : (s : Session) (w : List ℕ) → waiting s w ≡ LineWaits → (sound s (length w) ≡ true) × (waits s w ≡ true)
 unfolding waiting
 waiting-line s w = go (sound s (length w)) (waits s w)
   where
-    go : (b v : Bool) → cond b (cond v Line NoLine) NotAsked ≡ Line → (b ≡ true) × (v ≡ true)
+    go : (b v : Bool) → cond b (cond v LineWaits NoneWaits) WaitingRefused ≡ LineWaits → (b ≡ true) × (v ≡ true)
     go true true e = (refl, refl)
     go true false e = let z : _≡_ {A = ℕ} 0 1 = cc in absurd (omega arith)
     go false v e = let z : _≡_ {A = ℕ} 0 1 = cc in absurd (omega arith)
@@ -157,7 +157,7 @@ module _ (input : List ℕ) (answers : ℕ → Bool) (s : Session) (w rest : Lis
       (sym (rowsIn-table (answerRows s w (answers (count + 1))) table))
       (inv-given input answers s w rest count given i v)
 
-  pub inv-answer : (table : List ℕ) → waiting s w ≡ Line → rowSize * (s .settings .before + 2) ≤ length table
+  pub inv-answer : (table : List ℕ) → waiting s w ≡ LineWaits → rowSize * (s .settings .before + 2) ≤ length table
       → Inv input answers (answered s w table (answers (count + 1)) .session) w rest (count + 1)
       (given ++ rowsIn (answered s w table (answers (count + 1)) .rows) (answeredTable s w table (answers (count + 1))))
   unfolding answered answeredTable

@@ -18,7 +18,7 @@ use Rattle.definition.proofs.Kept.{rows-append}
 use Rattle.definition.proofs.Same.{same-end, same-rows}
 use Rattle.definition.proofs.Terminator.{first-le, handed-next}
 use Rattle.session.specs.declared.Session.{Session}
-use Rattle.session.specs.declared.Waiting.the-variants.{Line, NoLine, NotAsked}
+use Rattle.session.specs.declared.Waiting.the-variants.{LineWaits, NoneWaits, WaitingRefused}
 use Rattle.session.specs.Calls.{answered, offered, recorded, shownLine, waiting}
 use Rattle.session.specs.Held.{lineBytes, lineLength, shown, unanswered, waits}
 use Rattle.session.specs.Promises.{Begins, Beginning, Cut, Ends, Finished, Handed, Memory, NoRoom, Room, Served, TooLong, Within}
@@ -33,7 +33,7 @@ use Rattle.session.proofs.Invariant.{Inv}
 use Rattle.session.proofs.Room.{cut-shorter, not-ended, not-past, same-count, too-long}
 
 -- the part shown is the waiting line without its terminator
-shown-handed : (s : Session) (w : List ℕ) → waiting s w ≡ Line → shownLine s w ≡ handed (s .settings .terminator) (line s w)
+shown-handed : (s : Session) (w : List ℕ) → waiting s w ≡ LineWaits → shownLine s w ≡ handed (s .settings .terminator) (line s w)
 unfolding shownLine line lineLength lineBytes unanswered
 shown-handed s w e =
     let t = s .settings .terminator in
@@ -70,7 +70,7 @@ module _ (input : List ℕ) (answers : ℕ → Bool) (s : Session) (w rest : Lis
             ∙ sym (same-end c input answers),
       )
 
-  handed-inv : waiting s w ≡ Line → (before : List (List ℕ)) × (l : List ℕ) × (later : List (List ℕ))
+  handed-inv : waiting s w ≡ LineWaits → (before : List (List ℕ)) × (l : List ℕ) × (later : List (List ℕ))
       × (lines (s .settings .terminator) (text (s .settings) input) ≡ before ++ (l ∷ later))
       × (length before ≡ count)
       × (shownLine s w ≡ handed (s .settings .terminator) l)
@@ -171,11 +171,11 @@ room c input answers a r =
         ))
         (x .4)
 
-asked : (s : Session) (w : List ℕ) → sound s (length w) ≡ true → waiting s w ≡ NotAsked → ⊥
+asked : (s : Session) (w : List ℕ) → sound s (length w) ≡ true → waiting s w ≡ WaitingRefused → ⊥
 unfolding waiting
 asked s w e = rw e (go (waits s w))
   where
-    go : (b : Bool) → cond b Line NoLine ≡ NotAsked → ⊥
+    go : (b : Bool) → cond b LineWaits NoneWaits ≡ WaitingRefused → ⊥
     go true k = let z : _≡_ {A = ℕ} 0 1 = cc in omega arith
     go false k = let z : _≡_ {A = ℕ} 0 1 = cc in omega arith
 

@@ -31,7 +31,7 @@ use Rattle.session.specs.declared.Recorded.{Recorded}
 use Rattle.session.specs.declared.Session.{Session}
 use Rattle.session.specs.declared.Told.{Told}
 use Rattle.session.specs.declared.Waiting.{Waiting}
-use Rattle.session.specs.declared.Waiting.the-variants.{Line, NoLine, NotAsked}
+use Rattle.session.specs.declared.Waiting.the-variants.{LineWaits, NoneWaits, WaitingRefused}
 use Rattle.session.specs.Held.{part, isOn, isOpen, lineBytes, waits, lineLength, heldBytes, keptFrom, shown}
 use Rattle.session.specs.Sound.{agrees, closed, sound, takenBytes}
 
@@ -156,19 +156,19 @@ offeredWindow s w piece = offerWindow (offering s w piece) s w piece
 
 -- "a call of its own tells waiting, none, or refusal 6"
 unfoldable pub waiting : Session → List ℕ → Waiting
-waiting s w = cond (sound s (length w)) (cond (waits s w) Line NoLine) NotAsked
+waiting s w = cond (sound s (length w)) (cond (waits s w) LineWaits NoneWaits) WaitingRefused
 
 -- 01's number for each case
 abbrev pub waitingRefusal : Waiting → ℕ
-waitingRefusal Line = 0
-waitingRefusal NoLine = 0
-waitingRefusal NotAsked = 6
+waitingRefusal LineWaits = 0
+waitingRefusal NoneWaits = 0
+waitingRefusal WaitingRefused = 6
 
 -- "The waiting line is shown as that part of the lent window itself, without its terminator ..; on the last two the part is empty."
 abbrev pub shownWhere : Waiting → Session → List ℕ → List ℕ
-shownWhere Line s w = part (s .next) (s .next + lineBytes s w) w
-shownWhere NoLine s w = []
-shownWhere NotAsked s w = []
+shownWhere LineWaits s w = part (s .next) (s .next + lineBytes s w) w
+shownWhere NoneWaits s w = []
+shownWhere WaitingRefused s w = []
 
 unfoldable pub shownLine : Session → List ℕ → List ℕ
 shownLine s w = shownWhere (waiting s w) s w

@@ -12,7 +12,7 @@ use Rattle.definition.specs.Bounds.{maxInput}
 use Rattle.definition.specs.Definition.{bytesOf, endOf, goneLines, keptPart, rowsOf}
 use Rattle.definition.specs.Rows.{Row, rowSize}
 use Rattle.definition.specs.Text.{handed, lines, text}
-use Rattle.session.specs.declared.Waiting.the-variants.{Line, NotAsked}
+use Rattle.session.specs.declared.Waiting.the-variants.{LineWaits, WaitingRefused}
 use Rattle.session.specs.Calls.{answered, offered, recorded, shownLine, told, waiting}
 use Rattle.session.specs.Run.{At, Run, Steps}
 
@@ -32,30 +32,30 @@ Begins xs ys = (more : List Row) × (xs ++ more ≡ ys)
 abbrev pub Within : Settings → List ℕ → Type 0
 Within c input = length (text c input) ≤ maxInput
 
--- Finished. "A finished run's rows and end record equal the whole-input definition": where the end record is served, the rows given
+-- Finished. Demand 2: "A finished run's rows and end record equal the whole-input definition": where the end record is served, the rows given
 -- are the definition's rows and the end record is the definition's, all fields.
 abbrev pub Finished : Type 0
 Finished =
     (c : Settings) (input : List ℕ) (answers : ℕ → Bool) (a : At) → Run c input answers a → Ends a
     → (a .rows ≡ rowsOf c input answers) × (recorded (a .session) .end ≡ endOf c input answers)
 
--- Beginning. "the rows are the definition's, or a beginning of them": at every moment the rows given are a beginning of the definition's.
+-- Beginning. Demand 3: "the rows are the definition's, or a beginning of them": at every moment the rows given are a beginning of the definition's.
 abbrev pub Beginning : Type 0
 Beginning =
     (c : Settings) (input : List ℕ) (answers : ℕ → Bool) (a : At) → Run c input answers a → Begins (a .rows) (rowsOf c input answers)
 
--- Cut. "However the input is cut, and whatever the window": two finished runs of one input, settings and answers gave the same rows
+-- Cut. Demand 3: "However the input is cut, and whatever the window": two finished runs of one input, settings and answers gave the same rows
 -- and the same end record.
 abbrev pub Cut : Type 0
 Cut =
     (c : Settings) (input : List ℕ) (answers : ℕ → Bool) (a b : At) → Run c input answers a → Run c input answers b → Ends a → Ends b
     → (a .rows ≡ b .rows) × (recorded (a .session) .end ≡ recorded (b .session) .end)
 
--- Handed. The part shown is the definition's next line without its terminator, so that a matcher's yes or no per line is the answer
--- that the definition speaks of.
+-- Handed. For demand 2, "The matcher is handed the line without its terminator byte": the part shown is the definition's next line
+-- without its terminator, so that a matcher's yes or no per line is the answer that the definition speaks of.
 abbrev pub Handed : Type 0
 Handed =
-    (c : Settings) (input : List ℕ) (answers : ℕ → Bool) (a : At) → Run c input answers a → waiting (a .session) (a .window) ≡ Line
+    (c : Settings) (input : List ℕ) (answers : ℕ → Bool) (a : At) → Run c input answers a → waiting (a .session) (a .window) ≡ LineWaits
     → (before : List (List ℕ)) × (line : List ℕ) × (later : List (List ℕ))
     × (lines (c .terminator) (text c input) ≡ before ++ (line ∷ later))
     × (length before ≡ a .count)
@@ -85,7 +85,7 @@ pub record TooLong (c : Settings) (input : List ℕ) (answers : ℕ → Bool) (w
   pub fitted : Fitted c answers window before
   pub exceeds : window < keptBefore c answers before + length line
 
--- Room, exactly. ".. or a beginning of them followed by a refusal for room exactly where 01's room rule says."
+-- Room, exactly. Demand 3: ".. or a beginning of them followed by a refusal for room exactly where 01's room rule says."
 pub record Exactly (c : Settings) (input : List ℕ) (answers : ℕ → Bool) (a : At) : Type 0 where
   -- An offer is refused by 3 only where the line reached, with the lines kept before it, exceeds the window; every line before it
   -- fitted, and the rows given by then are those of the lines before it.
@@ -111,9 +111,9 @@ pub record Serves (answers : ℕ → Bool) (a : At) : Type 0 where
       (k : ℕ)
       → (offered (a .session) (a .window) (take k (a .rest)) .refusal ≡ 0)
       ⊎ (offered (a .session) (a .window) (take k (a .rest)) .refusal ≡ 3)
-  pub asks : waiting (a .session) (a .window) ≡ NotAsked → ⊥
+  pub asks : waiting (a .session) (a .window) ≡ WaitingRefused → ⊥
   pub answering :
-      (table : List ℕ) (hit : Bool) → waiting (a .session) (a .window) ≡ Line
+      (table : List ℕ) (hit : Bool) → waiting (a .session) (a .window) ≡ LineWaits
       → rowSize * (a .session .settings .before + 2) ≤ length table → answered (a .session) (a .window) table hit .refusal ≡ 0
   pub tells : told (a .session) .refusal ≡ 0
   -- 7 where the end record is asked for too early
@@ -121,15 +121,16 @@ pub record Serves (answers : ℕ → Bool) (a : At) : Type 0 where
   -- the run at hand, carried on
   pub carries : (b : At) × Steps answers a b × (Ends b ⊎ NoRoom b)
 
--- Served. The caller of demand 3 meets no refusal but 3, and any run can be carried on, extending the run at hand, until its end record
--- is served or it is refused by 3. So none of these promises holds emptily.
+-- Served. Demand 1, "Any bytes, settings, pieces and order of calls get an outcome": the caller of demand 3 meets no refusal but 3, and
+-- any run can be carried on, extending the run at hand, until its end record is served or it is refused by 3. So none of these promises
+-- holds emptily.
 abbrev pub Served : Type 0
 Served = (c : Settings) (input : List ℕ) (answers : ℕ → Bool) (a : At) → Run c input answers a → Within c input → Serves answers a
 
 -- # Memory
 
--- Memory. Of two runs of one input and answers, in windows of any two lengths, the rows of one are a beginning of the rows of the
--- other; and what finishes in a window can be carried to the same end in every longer one.
+-- Memory. Demand 3, "whatever the window": of two runs of one input and answers, in windows of any two lengths, the rows of one are a
+-- beginning of the rows of the other; and what finishes in a window can be carried to the same end in every longer one.
 abbrev pub Memory : Type 0
 Memory =
     (c : Settings) (input : List ℕ) (answers : ℕ → Bool) (a b : At) → Run c input answers a → Run c input answers b

@@ -7,7 +7,7 @@ use lib.ListN.{length, take, drop, getD}
 use Rattle.definition.specs.declared.Settings.{Settings}
 use Rattle.definition.specs.Rows.{Row, rowSize}
 use Rattle.session.specs.declared.Session.{Session}
-use Rattle.session.specs.declared.Waiting.the-variants.{Line}
+use Rattle.session.specs.declared.Waiting.the-variants.{LineWaits}
 use Rattle.session.specs.Calls.{opened, offered, offeredWindow, waiting, answered, answeredTable, told}
 
 -- the first n rows of a row table
@@ -73,7 +73,7 @@ atEnd a =
 pub data Steps (answers : ℕ → Bool) (from : At) : At → Type 0 where
   here : Steps answers from from
   offer : {a : At} (k : ℕ) → Steps answers from a → Steps answers from (atOffer k a)
-  answer : {a : At} (table : List ℕ) → waiting (a .session) (a .window) ≡ Line
+  answer : {a : At} (table : List ℕ) → waiting (a .session) (a .window) ≡ LineWaits
       → rowSize * (a .session .settings .before + 2) ≤ length table → Steps answers from a → Steps answers from (atAnswer answers table a)
   ask : {a : At} → Steps answers from a → Steps answers from a
   tell : {a : At} → a .rest ≡ [] → Steps answers from a → Steps answers from (atEnd a)

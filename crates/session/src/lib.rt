@@ -48,12 +48,11 @@ pub enum Answering {
     Give,
 }
 
-// Whether a line waits.
+// Whether a line waits; the last is refusal 6.
 pub enum Waiting {
-    Line,
-    NoLine,
-    // refusal 6
-    NotAsked,
+    LineWaits,
+    NoneWaits,
+    WaitingRefused,
 }
 
 pub struct Opened {
