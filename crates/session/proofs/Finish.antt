@@ -23,7 +23,7 @@ use Rattle.definition.proofs.Terminator.{first-append, first-append-none}
 use Rattle.session.specs.declared.Input.{Input}
 use Rattle.session.specs.declared.Input.the-variants.{Open, Ended, QuitFound}
 use Rattle.session.specs.declared.Session.{Session}
-use Rattle.session.specs.Calls.{goneThrough, isQuit, recordOf, recorded, recordedPlace, recording, remains, replacedIn}
+use Rattle.session.specs.Calls.{goneThrough, isQuit, recordOf, recorded, recordedPlace, recording, remains, replacedIn, underConvert}
 use Rattle.session.specs.Held.{isOn, isOpen, unanswered}
 use Rattle.session.specs.Sound.{agrees, takenBytes}
 use Rattle.session.proofs.Giving.{ended-text, going-is}
@@ -60,7 +60,7 @@ place-quit (Convert b) t bytes past rest u q e = absurd (false≢true q)
 
 -- otherwise that of the first replaced byte, once it is gone through
 place-other : (k : Binary) (t bytes cause : ℕ) (past rest : List ℕ) → bytes ≤ length past → eqb cause 1 ≡ false
-    → goneThrough (replacedIn k t 0 past) bytes ≡ binaryPlace k t cause bytes (past ++ rest)
+    → underConvert k (goneThrough (replacedIn k t 0 past) bytes) ≡ binaryPlace k t cause bytes (past ++ rest)
 place-other Ignore t bytes cause past rest h e = refl
 place-other (Quit b) t bytes cause past rest h e = rw e
 place-other (Convert b) t bytes cause past rest h e = go (eqb b t)
@@ -86,15 +86,15 @@ place-other (Convert b) t bytes cause past rest h e = go (eqb b t)
 module _ (k : Binary) (t bytes count matches taken : ℕ) (past rest : List ℕ) (place : Place) where
   abbrev Same : Going → Bool → Type 0
   Same g quit =
-      endWith bytes count matches (causeOf g quit) (cond (eqb (causeOf g quit) 1) (At taken) (goneThrough place bytes))
+      endWith bytes count matches (causeOf g quit) (cond (eqb (causeOf g quit) 1) (At taken) (underConvert k (goneThrough place bytes)))
       ≡ endWith bytes count matches (causeOf g (quitMet k (past ++ rest)))
       (binaryPlace k t (causeOf g (quitMet k (past ++ rest))) bytes (past ++ rest))
 
   module _ (place-is : place ≡ replacedIn k t 0 past) (gone : bytes ≤ length past) where
     same-other : (cause : ℕ) → eqb cause 1 ≡ false
-        → endWith bytes count matches cause (goneThrough place bytes) ≡ endWith bytes count matches cause (binaryPlace k t cause bytes (past ++ rest))
+        → endWith bytes count matches cause (underConvert k (goneThrough place bytes)) ≡ endWith bytes count matches cause (binaryPlace k t cause bytes (past ++ rest))
     same-other cause e =
-        ap (endWith bytes count matches cause) (ap (λ p. goneThrough p bytes) place-is ∙ place-other k t bytes cause past rest gone e)
+        ap (endWith bytes count matches cause) (ap (λ p. underConvert k (goneThrough p bytes)) place-is ∙ place-other k t bytes cause past rest gone e)
 
     same-stopped : (g : Going) (quit : Bool) → (g ≡ On → ⊥) → Same g quit
     same-stopped On quit h = absurd (h refl)

@@ -300,9 +300,15 @@ abbrev pub goneThrough : Place → ℕ → Place
 goneThrough Nowhere bytes = Nowhere
 goneThrough (At p) bytes = cond (ltb p bytes) (At p) Nowhere
 
+abbrev pub underConvert : Binary → Place → Place
+underConvert Ignore place = Nowhere
+underConvert (Quit b) place = Nowhere
+underConvert (Convert b) place = place
+
 -- "the Quit byte's under cause 1, under Convert the first replaced byte among those gone through, else none"
 unfoldable pub recordedPlace : Session → ℕ → Place
-recordedPlace s cause = cond (eqb cause 1) (At (takenBytes s)) (goneThrough (s .replaced) (s .bytes))
+recordedPlace s cause =
+    cond (eqb cause 1) (At (takenBytes s)) (underConvert (s .settings .binary) (goneThrough (s .replaced) (s .bytes)))
 
 unfoldable pub recordOf : Session → End
 recordOf s =
