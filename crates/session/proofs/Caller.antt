@@ -26,12 +26,12 @@ use Rattle.session.specs.declared.Session.{Session}
 use Rattle.session.specs.declared.Waiting.{Waiting}
 use Rattle.session.specs.declared.Waiting.the-variants.{LineWaits, NoneWaits, WaitingRefused}
 use Rattle.session.specs.Calls.{answerAnswer, answerRows, answerSession, answerTable, answered, answeredTable, answering, beforeQuit, belowOne, fitting, idle, inputTold, offerAnswer, offerWindow, offered, offeredWindow, offering, opened, opening, putRows, quitFront, recorded, recording, remains, shownLine, shownWhere, stepped, stored, storedWindow, taking, told, toldSession, waiting}
-use Rattle.session.specs.Caller.{waitingIn, unfinishedIn, waitingBytes, unfinishedBytes, wholeBytes, loneBytes, Reached, opens, offers, answers, tells, Agreeing, Answers, Balance, NothingTwice, Offers, Others, Plain, Progress, RefusalsChangeNothing, RowsStay, WhenAndOnlyThen, WindowStays}
+use Rattle.session.specs.Caller.{waitingIn, unfinishedIn, waitingBytes, unfinishedBytes, wholeBytes, loneBytes, Reached, opens, offers, answers, tells, Agreeing, Answers, Balance, NothingTwice, Offers, OfferServed, Others, Progress, RefusalsChangeNothing, RowsStay, WhenAndOnlyThen, WindowStays}
 use Rattle.session.specs.Held.{heldBytes, isOn, isOpen, keptFrom, lineBytes, shown, unanswered, waits}
 use Rattle.session.specs.Sound.{agrees, closed, sound, takenBytes, tests}
 use Rattle.session.proofs.Agree.{Agree, agrees-of}
 use Rattle.session.proofs.Carry.{busy, fitting-some, front-quits, not-front}
-use Rattle.session.proofs.Cases.{OfferCase, unsound, idling, quits, sized, full, takes, offer-3, offer-case, AnswerCase, few, gives, none, below, answer-case}
+use Rattle.session.proofs.Cases.{OfferCase, unsound, idling, quits, sized, full, takes, offer-case, offer-only, answer-only, AnswerCase, few, gives, none, below, answer-case}
 use Rattle.session.proofs.Cases as Cases
 use Rattle.session.proofs.History.{answerRows-most}
 use Rattle.session.proofs.Invariant.{unanswered-length}
@@ -99,43 +99,8 @@ refusals-change-nothing s w piece table hit c window =
 
 -- # When, and only then
 
-offer-6 : (s : Session) (w piece : List ℕ) (o : Offering) → OfferCase s w piece o → offerAnswer o s w piece .refusal ≡ 6 → sound s (length w) ≡ false
-unfolding taking
-offer-6 s w piece _ (unsound e) r = e
-offer-6 s w piece _ (idling e d) r = absurd (omega (arith, r))
-offer-6 s w piece _ (quits e d q) r = absurd (omega (arith, r))
-offer-6 s w piece _ (sized p m) r = absurd (omega (arith, r))
-offer-6 s w piece _ (full p m v f) r = absurd (omega (arith, r))
-offer-6 s w piece _ (takes p m v) r = absurd (omega (arith, r))
-
-offer-5 : (s : Session) (w piece : List ℕ) (o : Offering) → OfferCase s w piece o → offerAnswer o s w piece .refusal ≡ 5
-    → Plain s w piece × (maxInput ≤ takenBytes s)
-unfolding taking
-offer-5 s w piece _ (unsound e) r = absurd (omega (arith, r))
-offer-5 s w piece _ (idling e d) r = absurd (omega (arith, r))
-offer-5 s w piece _ (quits e d q) r = absurd (omega (arith, r))
-offer-5 s w piece _ (sized p m) r = (p, m)
-offer-5 s w piece _ (full p m v f) r = absurd (omega (arith, r))
-offer-5 s w piece _ (takes p m v) r = absurd (omega (arith, r))
-
-offer-0 : (s : Session) (w piece : List ℕ) (o : Offering) → OfferCase s w piece o → offerAnswer o s w piece .refusal ≡ 0
-    → (sound s (length w) ≡ true)
-    × ((idle s piece ≡ true)
-    ⊎ ((quitFront s piece ≡ true) ⊎ ((takenBytes s < maxInput) × ((waits s w ≡ true) ⊎ (heldBytes s w < s .window)))))
-unfolding taking
-offer-0 s w piece _ (unsound e) r = absurd (omega (arith, r))
-offer-0 s w piece _ (idling e d) r = (e, inl d)
-offer-0 s w piece _ (quits e d q) r = (e, inr (inl q))
-offer-0 s w piece _ (sized p m) r = absurd (omega (arith, r))
-offer-0 s w piece _ (full p m v f) r = absurd (omega (arith, r))
-offer-0 s w piece _ (takes p m v) r = (p .0, inr (inr (m, v)))
-
 -- the other way: what is neither refused by 6, 5 nor 3 is served
-offer-back-0 : (s : Session) (w piece : List ℕ)
-    → (sound s (length w) ≡ true)
-    × ((idle s piece ≡ true)
-    ⊎ ((quitFront s piece ≡ true) ⊎ ((takenBytes s < maxInput) × ((waits s w ≡ true) ⊎ (heldBytes s w < s .window)))))
-    → offered s w piece .refusal ≡ 0
+offer-back-0 : (s : Session) (w piece : List ℕ) → OfferServed s w piece → offered s w piece .refusal ≡ 0
 unfolding offered taking
 offer-back-0 s w piece h = go (offering s w piece) (offer-case s w piece)
   where
@@ -152,26 +117,19 @@ offer-back-0 s w piece h = go (offering s w piece) (offer-case s w piece)
         (λ t. ⊎-elim (λ q. true≢false (sym q ∙ p .2)) (λ r. ⊎-elim (λ u. true≢false (sym u ∙ v)) (λ k. omega (arith, k, f)) (r .1)) t) (h .1))
     go _ (takes p m v) = refl
 
-pub offers-when : (s : Session) (w piece : List ℕ) → Offers s w piece
+offers-when : (s : Session) (w piece : List ℕ) → Offers s w piece
 unfolding offered offering
 offers-when s w piece =
+    let only = offer-only s w piece _ (offer-case s w piece) in
     record {
-      six = (offer-6 s w piece _ (offer-case s w piece), λ e. rw e);
-      five = (offer-5 s w piece _ (offer-case s w piece), λ h. rw (h .0 .0, h .0 .1, h .0 .2, le-leb maxInput (takenBytes s) (h .1)));
+      six = (only .0, λ e. rw e);
+      five = (only .1, λ h. rw (h .0 .0, h .0 .1, h .0 .2, le-leb maxInput (takenBytes s) (h .1)));
       three = (
-        offer-3 s w piece _ (offer-case s w piece),
+        only .2,
         λ h. rw (h .0 .0, h .0 .1, h .0 .2, lt-leb maxInput (takenBytes s) (h .1), h .2, le-leb (s .window) (heldBytes s w) (h .3)),
       );
-      zero = (offer-0 s w piece _ (offer-case s w piece), offer-back-0 s w piece);
+      zero = (only .3, offer-back-0 s w piece);
     }
-
-answer-6 : (s : Session) (w : List ℕ) (table : ℕ) (hit : Bool) (o : Answering) → AnswerCase s w table hit o → answerAnswer o s w hit .refusal ≡ 6
-    → (sound s (length w) ≡ false) ⊎ ((waits s w ≡ false) ⊎ (belowOne s w hit ≡ true))
-answer-6 s w table hit _ (Cases.unsound e) r = inl e
-answer-6 s w table hit _ (none e v) r = inr (inl v)
-answer-6 s w table hit _ (below e v b) r = inr (inr b)
-answer-6 s w table hit _ (few e v b m) r = absurd (omega (arith, r))
-answer-6 s w table hit _ (gives e v b m) r = absurd (omega (arith, r))
 
 answer-back-6 : (s : Session) (w : List ℕ) (table : ℕ) (hit : Bool) (o : Answering) → AnswerCase s w table hit o
     → (sound s (length w) ≡ false) ⊎ ((waits s w ≡ false) ⊎ (belowOne s w hit ≡ true)) → answerAnswer o s w hit .refusal ≡ 6
@@ -183,31 +141,16 @@ answer-back-6 s w table hit _ (few e v b m) h =
 answer-back-6 s w table hit _ (gives e v b m) h =
     absurd (⊎-elim (λ k. true≢false (sym e ∙ k)) (λ t. ⊎-elim (λ k. true≢false (sym v ∙ k)) (λ k. true≢false (sym k ∙ b)) t) h)
 
-answer-4 : (s : Session) (w : List ℕ) (table : ℕ) (hit : Bool) (o : Answering) → AnswerCase s w table hit o → answerAnswer o s w hit .refusal ≡ 4
-    → (sound s (length w) ≡ true) × (waits s w ≡ true) × (belowOne s w hit ≡ false) × (table < rowSize * length (answerRows s w hit))
-answer-4 s w table hit _ (Cases.unsound e) r = absurd (omega (arith, r))
-answer-4 s w table hit _ (none e v) r = absurd (omega (arith, r))
-answer-4 s w table hit _ (below e v b) r = absurd (omega (arith, r))
-answer-4 s w table hit _ (few e v b m) r = (e, v, b, m)
-answer-4 s w table hit _ (gives e v b m) r = absurd (omega (arith, r))
-
-answer-0 : (s : Session) (w : List ℕ) (table : ℕ) (hit : Bool) (o : Answering) → AnswerCase s w table hit o → answerAnswer o s w hit .refusal ≡ 0
-    → (sound s (length w) ≡ true) × (waits s w ≡ true) × (belowOne s w hit ≡ false) × (rowSize * length (answerRows s w hit) ≤ table)
-answer-0 s w table hit _ (Cases.unsound e) r = absurd (omega (arith, r))
-answer-0 s w table hit _ (none e v) r = absurd (omega (arith, r))
-answer-0 s w table hit _ (below e v b) r = absurd (omega (arith, r))
-answer-0 s w table hit _ (few e v b m) r = absurd (omega (arith, r))
-answer-0 s w table hit _ (gives e v b m) r = (e, v, b, m)
-
 answers-when : (s : Session) (w table : List ℕ) (hit : Bool) → Answers s w table hit
 unfolding answered answering
 answers-when s w table hit =
     let case = answer-case s w (length table) hit in
+    let only = answer-only s w (length table) hit _ case in
     let need = rowSize * length (answerRows s w hit) in
     record {
-      six = (answer-6 s w (length table) hit _ case, answer-back-6 s w (length table) hit _ case);
-      four = (answer-4 s w (length table) hit _ case, λ h. rw (h .0, h .1, h .2, lt-ltb (length table) need (h .3)));
-      zero = (answer-0 s w (length table) hit _ case, λ h. rw (h .0, h .1, h .2, le-ltb (length table) need (h .3)));
+      six = (only .0, answer-back-6 s w (length table) hit _ case);
+      four = (only .1, λ h. rw (h .0, h .1, h .2, lt-ltb (length table) need (h .3)));
+      zero = (only .2, λ h. rw (h .0, h .1, h .2, le-ltb (length table) need (h .3)));
     }
 
 -- a choice by two tests among three answers, each of which says how the tests came out

@@ -4,10 +4,9 @@ use mathlib.Core.Path.{_≡_, refl}
 use mathlib.Core.Bool.{Bool, true, false, cond, not, _&&_}
 use mathlib.Core.List.{List}
 use mathlib.Core.Logic.{_⊎_, inl, inr}
-use native.Mathlib.Omega.{arith}
-use lib.Dec.{ltb, leb}
+use lib.Dec.{ltb, leb, eqb}
 use lib.ListN.{length}
-use borrow.Author.Tests.{leb-true, leb-false, ltb-true, ltb-false}
+use borrow.Author.Tests.{eqb-false, leb-true, leb-false, ltb-true, ltb-false}
 use Rattle.definition.specs.Bounds.{maxInput}
 use Rattle.definition.specs.Rows.{rowSize}
 use Rattle.session.specs.declared.Answering.{Answering}
@@ -15,8 +14,8 @@ use Rattle.session.specs.declared.Answering.the-variants.{AnswerRefused,
 use Rattle.session.specs.declared.Offering.{Offering}
 use Rattle.session.specs.declared.Offering.the-variants.{OfferRefused, Idle}
 use Rattle.session.specs.declared.Session.{Session}
-use Rattle.session.specs.Calls.{answerRows, answering, belowOne, idle, offerAnswer, offering, quitFront, taking}
-use Rattle.session.specs.Caller.{Plain}
+use Rattle.session.specs.Calls.{answerAnswer, answerRows, answering, belowOne, idle, offerAnswer, offering, quitFront, taking}
+use Rattle.session.specs.Caller.{OfferServed, Plain}
 use Rattle.session.specs.Held.{heldBytes, waits}
 use Rattle.session.specs.Sound.{sound, takenBytes}
 
@@ -56,16 +55,23 @@ module _ (s : Session) (w piece : List ℕ) where
   unfolding offering
   offer-case = offer-first (sound s (length w)) (idle s piece) (quitFront s piece) refl refl refl
 
--- what a refusal for room says
-pub offer-3 : (s : Session) (w piece : List ℕ) (o : Offering) → OfferCase s w piece o → offerAnswer o s w piece .refusal ≡ 3
-    → Plain s w piece × (takenBytes s < maxInput) × (waits s w ≡ false) × (s .window ≤ heldBytes s w)
+never : {A : Type 0} (m n : ℕ) → eqb m n ≡ false → m ≡ n → A
+never m n e z = absurd (eqb-false m n e z)
+
+-- what each number says of an offer
+pub offer-only : (s : Session) (w piece : List ℕ) (o : Offering) → OfferCase s w piece o
+    → let n = offerAnswer o s w piece .refusal in
+    (n ≡ 6 → sound s (length w) ≡ false)
+    × (n ≡ 5 → Plain s w piece × (maxInput ≤ takenBytes s))
+    × (n ≡ 3 → Plain s w piece × (takenBytes s < maxInput) × (waits s w ≡ false) × (s .window ≤ heldBytes s w))
+    × (n ≡ 0 → OfferServed s w piece)
 unfolding taking
-offer-3 s w piece _ (unsound e) r = absurd (omega (arith, r))
-offer-3 s w piece _ (idling e d) r = absurd (omega (arith, r))
-offer-3 s w piece _ (quits e d q) r = absurd (omega (arith, r))
-offer-3 s w piece _ (sized p m) r = absurd (omega (arith, r))
-offer-3 s w piece _ (full p m v f) r = (p, m, v, f)
-offer-3 s w piece _ (takes p m v) r = absurd (omega (arith, r))
+offer-only s w piece _ (unsound e) = (λ z. e, never 6 5 refl, never 6 3 refl, never 6 0 refl)
+offer-only s w piece _ (idling e d) = (never 0 6 refl, never 0 5 refl, never 0 3 refl, λ z. (e, inl d))
+offer-only s w piece _ (quits e d q) = (never 0 6 refl, never 0 5 refl, never 0 3 refl, λ z. (e, inr (inl q)))
+offer-only s w piece _ (sized p m) = (never 5 6 refl, λ z. (p, m), never 5 3 refl, never 5 0 refl)
+offer-only s w piece _ (full p m v f) = (never 3 6 refl, never 3 5 refl, λ z. (p, m, v, f), never 3 0 refl)
+offer-only s w piece _ (takes p m v) = (never 0 6 refl, never 0 5 refl, never 0 3 refl, λ z. (p .0, inr (inr (m, v))))
 
 module _ (s : Session) (w : List ℕ) (table : ℕ) (hit : Bool) where
   pub data AnswerCase : Answering → Type 0 where
@@ -91,3 +97,15 @@ module _ (s : Session) (w : List ℕ) (table : ℕ) (hit : Bool) where
   unfolding answering
   answer-case =
       answer-first (sound s (length w)) (waits s w) (belowOne s w hit) (ltb table (rowSize * length (answerRows s w hit))) refl refl refl refl
+
+  -- what each number says of an answer
+  pub answer-only : (o : Answering) → AnswerCase o
+      → let n = answerAnswer o s w hit .refusal in
+      (n ≡ 6 → (sound s (length w) ≡ false) ⊎ ((waits s w ≡ false) ⊎ (belowOne s w hit ≡ true)))
+      × (n ≡ 4 → (sound s (length w) ≡ true) × (waits s w ≡ true) × (belowOne s w hit ≡ false) × (table < rowSize * length (answerRows s w hit)))
+      × (n ≡ 0 → (sound s (length w) ≡ true) × (waits s w ≡ true) × (belowOne s w hit ≡ false) × (rowSize * length (answerRows s w hit) ≤ table))
+  answer-only _ (unsound e) = (λ z. inl e, never 6 4 refl, never 6 0 refl)
+  answer-only _ (none e v) = (λ z. inr (inl v), never 6 4 refl, never 6 0 refl)
+  answer-only _ (below e v b) = (λ z. inr (inr b), never 6 4 refl, never 6 0 refl)
+  answer-only _ (few e v b m) = (never 4 6 refl, λ z. (e, v, b, m), never 4 0 refl)
+  answer-only _ (gives e v b m) = (never 0 6 refl, never 0 4 refl, λ z. (e, v, b, m))

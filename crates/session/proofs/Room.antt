@@ -22,7 +22,7 @@ use Rattle.session.specs.Calls.{idle, offered}
 use Rattle.session.specs.Held.{heldBytes, isOn, isOpen, keptBytes, lineBytes, unanswered, waits}
 use Rattle.session.specs.Promises.{Fitted, TooLong, keptBefore}
 use Rattle.session.proofs.Carry.{more-text, not-idle}
-use Rattle.session.proofs.Cases.{offer-3, offer-case}
+use Rattle.session.proofs.Cases.{offer-case, offer-only}
 use Rattle.session.proofs.Finish.{Done, stopped, ended, nothing-left}
 use Rattle.session.proofs.Giving.{going-is, kept-before}
 use Rattle.session.proofs.Invariant.{Inv, unanswered-length}
@@ -90,7 +90,7 @@ module _ (input : List ℕ) (answers : ℕ → Bool) (s : Session) (w rest : Lis
       let t = c .terminator in
       let u = unanswered s w in
       let v = text c rest in
-      let f = offer-3 s w (take k rest) _ (offer-case s w (take k rest)) e in
+      let f = offer-only s w (take k rest) _ (offer-case s w (take k rest)) .2 e in
       let idle = not-idle s (take k rest) (f .0 .1) in
       let some = more-text input answers s w rest count given i k (idle .0) (f .0 .2) .1 in
       let joined = length-append u v in

@@ -64,18 +64,22 @@ RefusalsChangeNothing =
 abbrev pub Plain : Session → List ℕ → List ℕ → Type 0
 Plain s w piece = (sound s (length w) ≡ true) × (idle s piece ≡ false) × (quitFront s piece ≡ false)
 
+-- what is served: an idle piece, one led by a Quit byte, or one for which size and window have room; a waiting line is room enough,
+-- since nothing need be taken
+abbrev pub OfferServed : Session → List ℕ → List ℕ → Type 0
+OfferServed s w piece =
+    (sound s (length w) ≡ true)
+    × ((idle s piece ≡ true)
+    ⊎ ((quitFront s piece ≡ true)
+    ⊎ ((takenBytes s < maxInput) × ((waits s w ≡ true) ⊎ (heldBytes s w < s .window)))))
+
 pub record Offers (s : Session) (w piece : List ℕ) : Type 0 where
   pub six : (offered s w piece .refusal ≡ 6) ↔ (sound s (length w) ≡ false)
   pub five : (offered s w piece .refusal ≡ 5) ↔ (Plain s w piece × (maxInput ≤ takenBytes s))
   pub three :
       (offered s w piece .refusal ≡ 3)
       ↔ (Plain s w piece × (takenBytes s < maxInput) × (waits s w ≡ false) × (s .window ≤ heldBytes s w))
-  pub zero :
-      (offered s w piece .refusal ≡ 0)
-      ↔ ((sound s (length w) ≡ true)
-      × ((idle s piece ≡ true)
-      ⊎ ((quitFront s piece ≡ true)
-      ⊎ ((takenBytes s < maxInput) × ((waits s w ≡ true) ⊎ (heldBytes s w < s .window))))))
+  pub zero : (offered s w piece .refusal ≡ 0) ↔ OfferServed s w piece
 
 pub record Answers (s : Session) (w table : List ℕ) (hit : Bool) : Type 0 where
   pub six :
