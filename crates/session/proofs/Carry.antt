@@ -26,10 +26,9 @@ use Rattle.session.specs.Promises.{Ends, NoRoom, Within}
 use Rattle.session.specs.Run.{At, Steps, here, offer, answer, tell, atAnswer, atEnd, atOffer}
 use Rattle.session.specs.Sound.{sound, takenBytes}
 use Rattle.session.proofs.Agree.{Agree, agrees-of}
-use Rattle.session.proofs.Cases.{OfferCase, unsound, idling, quits, sized, full, takes, offer-case, AnswerCase, few, gives, none, below, answer-case}
-use Rattle.session.proofs.Cases as Cases
-use Rattle.session.proofs.History.{InvAt, answerRows-most, inv-steps, join, not-below, steps-stay}
-use Rattle.session.proofs.Invariant.{Inv, taken-is, unanswered-length}
+use Rattle.session.proofs.Cases.{OfferCase, unsound, idling, quits, sized, full, takes, offer-case}
+use Rattle.session.proofs.History.{InvAt, answer-gives, inv-steps, join, steps-stay}
+use Rattle.session.proofs.Invariant.{Inv, sound-now, taken-is, unanswered-length}
 use Rattle.session.proofs.Keeps.{is-on, line-le, waiting-length}
 use Rattle.session.proofs.Taking.{quit-le, rest-text, take-uncut}
 
@@ -118,10 +117,6 @@ busy s piece h e g = rw (ne-eqb (length piece) 0 (λ z. omega arith), ap isOpen 
 
 module _ (input : List ℕ) (answers : ℕ → Bool) (s : Session) (w rest : List ℕ) (count : ℕ) (given : List Row)
     (i : Inv input answers s w rest count given) where
-  pub sound-now : sound s (length w) ≡ true
-  unfolding sound
-  sound-now = rw (agrees-of s (i .agree), eq-eqb (length w) (s .window) (i .window-is))
-
   -- a piece with bytes that no Quit byte leads has a byte of the text
   pub more-text : (k : ℕ) → 0 < length (take k rest) → quitFront s (take k rest) ≡ false
       → (0 < beforeQuit s (take k rest)) × (0 < length (text (s .settings) rest))
@@ -155,21 +150,13 @@ module _ (input : List ℕ) (answers : ℕ → Bool) (s : Session) (w rest : Lis
   pub offer-served : Within (s .settings) input → (k : ℕ) (o : Offering) → OfferCase s w (take k rest) o
       → (offerAnswer o s w (take k rest) .refusal ≡ 0) ⊎ (offerAnswer o s w (take k rest) .refusal ≡ 3)
   unfolding taking
-  offer-served h k _ (unsound e) = absurd (true≢false (sym sound-now ∙ e))
+  offer-served h k _ (unsound e) = absurd (true≢false (sym (sound-now input answers s w rest count given i) ∙ e))
   offer-served h k _ (idling e d) = inl refl
   offer-served h k _ (quits e d q) = inl refl
   offer-served h k _ (sized p m) =
       absurd (omega (arith, m, size-left h (more-text k (not-idle s (take k rest) (p .1) .0) (p .2) .1)))
   offer-served h k _ (full p m v f) = inr refl
   offer-served h k _ (takes p m v) = inl refl
-
-  pub answer-served : (table : ℕ) (hit : Bool) (o : Answering) → AnswerCase s w table hit o → waits s w ≡ true
-      → rowSize * (s .settings .before + 2) ≤ table → answerAnswer o s w hit .refusal ≡ 0
-  answer-served table hit _ (Cases.unsound e) v r = absurd (true≢false (sym sound-now ∙ e))
-  answer-served table hit _ (none e u) v r = absurd (true≢false (sym v ∙ u))
-  answer-served table hit _ (below e u b) v r = absurd (true≢false (sym b ∙ not-below input answers s w rest count given i hit))
-  answer-served table hit _ (few e u b h) v r = absurd (omega (arith, h, r, answerRows-most s w hit))
-  answer-served table hit _ (gives e u b h) v r = refl
 
   pub told-served : told s .refusal ≡ 0
   unfolding told
@@ -189,7 +176,7 @@ module _ (input : List ℕ) (answers : ℕ → Bool) (s : Session) (w rest : Lis
 
   pub waiting-now : waits s w ≡ true → waiting s w ≡ LineWaits
   unfolding waiting
-  waiting-now v = rw (sound-now, v)
+  waiting-now v = rw (sound-now input answers s w rest count given i, v)
 
   -- # What is left gets lighter
 
@@ -198,7 +185,7 @@ module _ (input : List ℕ) (answers : ℕ → Bool) (s : Session) (w rest : Lis
       → (offerAnswer o s w (take k rest) .refusal ≡ 3)
       ⊎ (weight (offerAnswer o s w (take k rest) .session) (drop (offerAnswer o s w (take k rest) .taken) rest) < weight s rest)
   unfolding taking
-  offer-falls h v n g l k z _ (unsound e) = absurd (true≢false (sym sound-now ∙ e))
+  offer-falls h v n g l k z _ (unsound e) = absurd (true≢false (sym (sound-now input answers s w rest count given i) ∙ e))
   offer-falls h v n g l k z _ (idling e d) = absurd (true≢false (sym d ∙ busy s (take k rest) (omega (arith, length-take k rest)) n g))
   offer-falls h v n g l k z _ (quits e d q) =
       inr (stored-falls s w (take k rest) rest (i .agree) n (fitting s w (take k rest)) _ (fitting-rest s w k rest)
@@ -212,14 +199,9 @@ module _ (input : List ℕ) (answers : ℕ → Bool) (s : Session) (w rest : Lis
       inr (stored-falls s w (take k rest) rest (i .agree) n (fitting s w (take k rest)) _ (fitting-rest s w k rest)
       (inl (fitting-some s w (take k rest) front room m)))
 
-  answer-falls : (table : ℕ) (hit : Bool) (o : Answering) → AnswerCase s w table hit o → waits s w ≡ true
-      → rowSize * (s .settings .before + 2) ≤ table → weight (answerAnswer o s w hit .session) rest < weight s rest
+  answer-falls : (hit : Bool) → waits s w ≡ true → weight (answerSession s w hit) rest < weight s rest
   unfolding weight answerSession stepped
-  answer-falls table hit _ (Cases.unsound e) v r = absurd (true≢false (sym sound-now ∙ e))
-  answer-falls table hit _ (none e u) v r = absurd (true≢false (sym v ∙ u))
-  answer-falls table hit _ (below e u b) v r = absurd (true≢false (sym b ∙ not-below input answers s w rest count given i hit))
-  answer-falls table hit _ (few e u b h) v r = absurd (omega (arith, h, r, answerRows-most s w hit))
-  answer-falls table hit _ (gives e u b h) v r = omega (arith, waiting-length s w v, line-le s w)
+  answer-falls hit v = omega (arith, waiting-length s w v, line-le s w)
 
   toldSession-falls : s .input ≡ Open → s .going ≡ On → weight (toldSession s) rest < weight s rest
   unfolding weight toldSession
@@ -248,12 +230,15 @@ module _ (input : List ℕ) (answers : ℕ → Bool) (a : At) (i : InvAt input a
   answer-turn v =
       let s = a .session in
       let w = a .window in
+      let hit = answers (a .count + 1) in
       let table : List ℕ = replicate (rowSize * (s .settings .before + 2)) 0 in
-      let size = length-replicate {A = ℕ} (rowSize * (s .settings .before + 2)) 0 in (
+      let size : rowSize * (s .settings .before + 2) ≤ length table =
+      omega (arith, length-replicate {A = ℕ} (rowSize * (s .settings .before + 2)) 0)
+      in
+      let gives = answer-gives input answers s w (a .rest) (a .count) (a .rows) i (length table) hit v size in (
         atAnswer answers table a,
-        answer table (waiting-now input answers s w (a .rest) (a .count) (a .rows) i v) (omega (arith, size)) here,
-        answer-falls input answers s w (a .rest) (a .count) (a .rows) i (length table) (answers (a .count + 1)) _
-            (answer-case s w (length table) (answers (a .count + 1))) v (omega (arith, size)),
+        answer table (waiting-now input answers s w (a .rest) (a .count) (a .rows) i v) size here,
+        rw gives (answer-falls input answers s w (a .rest) (a .count) (a .rows) i hit v),
       )
 
   offer-turn : waits (a .session) (a .window) ≡ false → a .session .input ≡ Open → a .session .going ≡ On → 0 < length (a .rest) → NoRoom a ⊎ Lighter answers a

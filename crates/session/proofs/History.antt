@@ -38,8 +38,8 @@ use Rattle.session.proofs.Agree.{agrees-of}
 use Rattle.session.proofs.Cases.{OfferCase, unsound, idling, quits, sized, full, takes, offer-case, AnswerCase, few, gives, none, below, answer-case}
 use Rattle.session.proofs.Cases as Cases
 use Rattle.session.proofs.Giving.{inv-given, rowsIn-put, text-none}
-use Rattle.session.proofs.Invariant.{Inv, InputNow}
-use Rattle.session.proofs.Keeps.{agree-fresh, agree-toldSession, fitting-room, served-fresh}
+use Rattle.session.proofs.Invariant.{Inv, InputNow, sound-now}
+use Rattle.session.proofs.Keeps.{TakenIf, offer-taken, agree-fresh, agree-toldSession, fitting-room, served-fresh}
 use Rattle.session.proofs.Taking.{inv-taken}
 
 -- # Opening
@@ -104,22 +104,17 @@ module _ (input : List ℕ) (answers : ℕ → Bool) (s : Session) (w rest : Lis
     (i : Inv input answers s w rest count given) where
   -- # Offering
 
-  inv-offer-case : (k : ℕ) (o : Offering) → OfferCase s w (take k rest) o
-      → Inv input answers (offerAnswer o s w (take k rest) .session) (offerWindow o s w (take k rest)) (drop (offerAnswer o s w (take k rest) .taken) rest) count given
-  unfolding taking
-  inv-offer-case k _ (unsound e) = i
-  inv-offer-case k _ (idling e d) = i
-  inv-offer-case k _ (quits e d q) =
-      inv-taken input answers s w rest count given k (fitting s w (take k rest)) _ i (fitting-room s w (take k rest) (i .agree)) refl
-  inv-offer-case k _ (sized p h) = i
-  inv-offer-case k _ (full p h v f) = i
-  inv-offer-case k _ (takes p h v) =
-      inv-taken input answers s w rest count given k (fitting s w (take k rest)) _ i (fitting-room s w (take k rest) (i .agree)) refl
+  inv-offer-of : (k : ℕ) (o : Offering) → TakenIf s w (take k rest) o
+      → Inv input answers (offerAnswer o s w (take k rest) .session) (offerWindow o s w (take k rest))
+      (drop (offerAnswer o s w (take k rest) .taken) rest) count given
+  inv-offer-of k (OfferRefused m) t = i
+  inv-offer-of k Idle t = i
+  inv-offer-of k (Take n quit) t = inv-taken input answers s w rest count given k n quit i (t .room) (t .flag)
 
   pub inv-offer : (k : ℕ)
       → Inv input answers (offered s w (take k rest) .session) (offeredWindow s w (take k rest)) (drop (offered s w (take k rest) .taken) rest) count given
   unfolding offered offeredWindow
-  inv-offer k = inv-offer-case k _ (offer-case s w (take k rest))
+  inv-offer k = inv-offer-of k (offering s w (take k rest)) (offer-taken s w (take k rest))
 
   -- # Answering
 
@@ -144,26 +139,21 @@ module _ (input : List ℕ) (answers : ℕ → Bool) (s : Session) (w rest : Lis
   unfolding belowOne
   not-below hit = le-ltb (s .lines) (beforeRows (fateOf (s .settings) (shown s w) hit) (s .settings) (shown s w)) (before-le (fateOf (s .settings) (shown s w) hit))
 
-  inv-answer-case : (table : List ℕ) (o : Answering) → AnswerCase s w (length table) (answers (count + 1)) o → waits s w ≡ true → sound s (length w) ≡ true
-      → rowSize * (s .settings .before + 2) ≤ length table
-      → Inv input answers (answerAnswer o s w (answers (count + 1)) .session) w rest (count + 1)
-      (given ++ rowsIn (answerAnswer o s w (answers (count + 1)) .rows) (answerTable o s w table (answers (count + 1))))
-  inv-answer-case table _ (Cases.unsound e) v d r = absurd (true≢false (sym d ∙ e))
-  inv-answer-case table _ (none e u) v d r = absurd (true≢false (sym v ∙ u))
-  inv-answer-case table _ (below e u b) v d r = absurd (true≢false (sym b ∙ not-below (answers (count + 1))))
-  inv-answer-case table _ (few e u b h) v d r = absurd (omega (arith, h, r, answerRows-most s w (answers (count + 1))))
-  inv-answer-case table _ (gives e u b h) v d r =
-      subst (λ rs. Inv input answers (answerSession s w (answers (count + 1))) w rest (count + 1) (given ++ rs))
-      (sym (rowsIn-table (answerRows s w (answers (count + 1))) table))
-      (inv-given input answers s w rest count given i v)
+  -- with room for B + 2 rows the answer to a waiting line is served
+  pub answer-gives : (table : ℕ) (hit : Bool) → waits s w ≡ true → rowSize * (s .settings .before + 2) ≤ table → answering s w table hit ≡ Give
+  unfolding answering
+  answer-gives table hit v r =
+      let few = le-ltb table (rowSize * length (answerRows s w hit)) (omega (arith, r, answerRows-most s w hit)) in
+      rw (sound-now input answers s w rest count given i, v, not-below hit, few)
 
   pub inv-answer : (table : List ℕ) → waiting s w ≡ LineWaits → rowSize * (s .settings .before + 2) ≤ length table
       → Inv input answers (answered s w table (answers (count + 1)) .session) w rest (count + 1)
       (given ++ rowsIn (answered s w table (answers (count + 1)) .rows) (answeredTable s w table (answers (count + 1))))
   unfolding answered answeredTable
   inv-answer table e r =
-      let why = waiting-line s w e in
-      inv-answer-case table _ (answer-case s w (length table) (answers (count + 1))) (why .1) (why .0) r
+      let hit = answers (count + 1) in
+      let v = waiting-line s w e .1 in
+      rw (answer-gives (length table) hit v r, rowsIn-table (answerRows s w hit) table) (inv-given input answers s w rest count given i v)
 
   -- # Telling the end
 

@@ -5,6 +5,7 @@ use mathlib.Core.Bool.{Bool, true}
 use mathlib.Core.List.{List, [], _++_, flatten}
 use native.Mathlib.Omega.{arith}
 use lib.ListN.{length, length-append}
+use borrow.Author.Tests.{eq-eqb}
 use Rattle.definition.specs.declared.Settings.{Settings}
 use Rattle.definition.specs.Definition.{quitMet}
 use Rattle.definition.specs.Rows.{Row}
@@ -18,8 +19,8 @@ use Rattle.session.specs.declared.Session.{Session}
 use Rattle.session.specs.Calls.{replacedIn}
 use Rattle.session.specs.Held.{part, shown, unanswered}
 use Rattle.session.specs.Promises.{Fitted}
-use Rattle.session.specs.Sound.{takenBytes}
-use Rattle.session.proofs.Agree.{Agree}
+use Rattle.session.specs.Sound.{sound, takenBytes}
+use Rattle.session.proofs.Agree.{Agree, agrees-of}
 use Rattle.session.proofs.Parts.{part-length}
 
 -- how the input stands, for what is left of it
@@ -66,3 +67,7 @@ module _ (input : List ℕ) (answers : ℕ → Bool) (s : Session) (w rest : Lis
         i .bytes-is,
         unanswered-length s w (i .agree) (i .window-is),
       )
+
+  pub sound-now : sound s (length w) ≡ true
+  unfolding sound
+  sound-now = rw (agrees-of s (i .agree), eq-eqb (length w) (s .window) (i .window-is))

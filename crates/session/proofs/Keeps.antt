@@ -1,5 +1,5 @@
 -- Each call keeps the list of contradictions empty, whatever window, piece and table it is given.
-use Prim.Native.Nat.{ℕ, _+_, _-_, _≤_, _<_}
+use Prim.Native.Nat.{ℕ, _+_, _-_, _*_, _≤_, _<_}
 use mathlib.Core.Path.{_≡_, refl}
 use mathlib.Core.Bool.{Bool, true, false, cond, not, _&&_, _||_, and-eq-true-iff, false≢true, or-true}
 use mathlib.Core.List.{List}
@@ -15,12 +15,15 @@ use Rattle.definition.specs.declared.Limit.the-variants.{Unlimited, Most}
 use Rattle.definition.specs.declared.Settings.{Settings}
 use Rattle.definition.specs.Bounds.{allowed, maxInput, maxWindow}
 use Rattle.definition.specs.Definition.{Fate, match, after, other, norow, limitReached, selected}
+use Rattle.definition.specs.Rows.{rowSize}
 use Rattle.definition.specs.State.{State, fateOf, stateNext}
 use Rattle.definition.proofs.Fates.{FateCase, selects, owes, passes, skips, fate-case, selected-below}
 use Rattle.session.specs.declared.Answering.{Answering}
+use Rattle.session.specs.declared.Answering.the-variants.{AnswerRefused, Give}
 use Rattle.session.specs.declared.Offering.{Offering}
+use Rattle.session.specs.declared.Offering.the-variants.{OfferRefused, Idle, Take}
 use Rattle.session.specs.declared.Session.{Session}
-use Rattle.session.specs.Calls.{answerAnswer, answerSession, answered, beforeQuit, fitting, fresh, getsRow, offerAnswer, offered, opened, opening, stepped, stored, taking, told, toldSession}
+use Rattle.session.specs.Calls.{answerAnswer, answerRows, answerSession, answered, answering, beforeQuit, fitting, fresh, getsRow, offerAnswer, offered, offering, opened, opening, stepped, stored, taking, told, toldSession}
 use Rattle.session.specs.Held.{heldBytes, isOn, isOpen, keptBytes, keptFrom, lineBytes, lineLength, shown, unanswered, waits}
 use Rattle.session.specs.Sound.{agrees, sound, takenBytes, withinLimit}
 use Rattle.session.proofs.Agree.{Agree, agree-of, agrees-of}
@@ -80,18 +83,45 @@ pub sound-window : (s : Session) (n : ℕ) → sound s n ≡ true → n ≡ s .w
 unfolding sound
 sound-window s n e = eqb-true n (s .window) (and-eq-true-iff (agrees s) (eqb n (s .window)) .0 e .1)
 
-agree-offer-case : (s : Session) (w piece : List ℕ) (o : Offering) → OfferCase s w piece o → Agree s → Agree (offerAnswer o s w piece .session)
+-- what a decision to take implies; the others imply nothing
+pub record Taken (s : Session) (w piece : List ℕ) (n : ℕ) (quit : Bool) : Type 0 where
+  pub size : length w ≡ s .window
+  pub room : Room s w piece n
+  pub flag : (eqb n (beforeQuit s piece) && ltb n (length piece)) ≡ quit
+
+abbrev pub TakenIf : Session → List ℕ → List ℕ → Offering → Type 0
+TakenIf s w piece (OfferRefused k) = Unit {0}
+TakenIf s w piece Idle = Unit {0}
+TakenIf s w piece (Take n quit) = Taken s w piece n quit
+
+taking-taken : (s : Session) (w piece : List ℕ) → sound s (length w) ≡ true → TakenIf s w piece (taking s w piece)
 unfolding taking
-agree-offer-case s w piece _ (unsound e) a = a
-agree-offer-case s w piece _ (idling e i) a = a
-agree-offer-case s w piece _ (quits e i q) a = agree-stored s w piece (fitting s w piece) _ a (fitting-room s w piece a)
-agree-offer-case s w piece _ (sized p h) a = a
-agree-offer-case s w piece _ (full p h v k) a = a
-agree-offer-case s w piece _ (takes p h v) a = agree-stored s w piece (fitting s w piece) _ a (fitting-room s w piece a)
+taking-taken s w piece e =
+    record {
+      size = sound-window s (length w) e;
+      room = fitting-room s w piece (sound-agrees s (length w) e);
+      flag = refl;
+    }
+
+taken-case : (s : Session) (w piece : List ℕ) (o : Offering) → OfferCase s w piece o → TakenIf s w piece o
+taken-case s w piece _ (unsound e) = tt
+taken-case s w piece _ (idling e i) = tt
+taken-case s w piece _ (quits e i q) = taking-taken s w piece e
+taken-case s w piece _ (sized p h) = tt
+taken-case s w piece _ (full p h v k) = tt
+taken-case s w piece _ (takes p h v) = taking-taken s w piece (p .0)
+
+pub offer-taken : (s : Session) (w piece : List ℕ) → TakenIf s w piece (offering s w piece)
+offer-taken s w piece = taken-case s w piece _ (offer-case s w piece)
+
+agree-offer-of : (s : Session) (w piece : List ℕ) (o : Offering) → TakenIf s w piece o → Agree s → Agree (offerAnswer o s w piece .session)
+agree-offer-of s w piece (OfferRefused k) t a = a
+agree-offer-of s w piece Idle t a = a
+agree-offer-of s w piece (Take n quit) t a = agree-stored s w piece n quit a (t .room)
 
 pub agree-offer : (s : Session) (w piece : List ℕ) → Agree s → Agree (offered s w piece .session)
 unfolding offered
-agree-offer s w piece a = agree-offer-case s w piece _ (offer-case s w piece) a
+agree-offer s w piece a = agree-offer-of s w piece (offering s w piece) (offer-taken s w piece) a
 
 -- # Answering
 
@@ -185,16 +215,30 @@ unfolding answerSession fateOf shown
 agree-given s w hit a v =
     agree-fate s w hit (lineLength s w) _ (fate-case (s .settings) (selected (s .settings) (s .matches) hit) (s .left)) a (waiting-length s w v) (line-le s w)
 
-agree-answer-case : (s : Session) (w : List ℕ) (table : ℕ) (hit : Bool) (o : Answering) → AnswerCase s w table hit o → Agree s → Agree (answerAnswer o s w hit .session)
-agree-answer-case s w table hit _ (Cases.unsound e) a = a
-agree-answer-case s w table hit _ (none e v) a = a
-agree-answer-case s w table hit _ (below e v b) a = a
-agree-answer-case s w table hit _ (few e v b h) a = a
-agree-answer-case s w table hit _ (gives e v b h) a = agree-given s w hit a v
+-- what a decision to give implies
+abbrev pub GivenIf : Session → List ℕ → ℕ → Bool → Answering → Type 0
+GivenIf s w table hit (AnswerRefused k) = Unit {0}
+GivenIf s w table hit Give = (waits s w ≡ true) × (rowSize * length (answerRows s w hit) ≤ table)
+
+given-case : (s : Session) (w : List ℕ) (table : ℕ) (hit : Bool) (o : Answering) → AnswerCase s w table hit o → GivenIf s w table hit o
+given-case s w table hit _ (Cases.unsound e) = tt
+given-case s w table hit _ (none e v) = tt
+given-case s w table hit _ (below e v b) = tt
+given-case s w table hit _ (few e v b h) = tt
+given-case s w table hit _ (gives e v b h) = (v, h)
+
+pub answer-given : (s : Session) (w : List ℕ) (table : ℕ) (hit : Bool) → GivenIf s w table hit (answering s w table hit)
+answer-given s w table hit = given-case s w table hit _ (answer-case s w table hit)
+
+agree-answer-of : (s : Session) (w : List ℕ) (table : ℕ) (hit : Bool) (o : Answering) → GivenIf s w table hit o → Agree s
+    → Agree (answerAnswer o s w hit .session)
+agree-answer-of s w table hit (AnswerRefused k) g a = a
+agree-answer-of s w table hit Give g a = agree-given s w hit a (g .0)
 
 pub agree-answer : (s : Session) (w table : List ℕ) (hit : Bool) → Agree s → Agree (answered s w table hit .session)
 unfolding answered
-agree-answer s w table hit a = agree-answer-case s w (length table) hit _ (answer-case s w (length table) hit) a
+agree-answer s w table hit a =
+    agree-answer-of s w (length table) hit (answering s w (length table) hit) (answer-given s w (length table) hit) a
 
 -- # Telling the end, and opening
 

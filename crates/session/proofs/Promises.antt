@@ -24,12 +24,12 @@ use Rattle.session.specs.Held.{lineBytes, lineLength, shown, unanswered,
 use Rattle.session.specs.Promises.{Begins, Beginning, Cut, Ends, Finished, Handed, Memory, NoRoom, Room, Served, TooLong, Within}
 use Rattle.session.specs.Run.{At, Run, Steps}
 use Rattle.session.specs.Sound.{sound}
-use Rattle.session.proofs.Carry.{answer-served, carried, offer-served, record-served, sound-now, told-served}
-use Rattle.session.proofs.Cases.{answer-case, offer-case}
+use Rattle.session.proofs.Carry.{carried, offer-served, record-served, told-served}
+use Rattle.session.proofs.Cases.{offer-case}
 use Rattle.session.proofs.Finish.{record-same, rows-done, served-done, served-record, state-done}
 use Rattle.session.proofs.Giving.{line, lines-now}
-use Rattle.session.proofs.History.{inv-run, run-on, run-settings, steps-stay, waiting-line}
-use Rattle.session.proofs.Invariant.{Inv}
+use Rattle.session.proofs.History.{answer-gives, inv-run, run-on, run-settings, steps-stay, waiting-line}
+use Rattle.session.proofs.Invariant.{Inv, sound-now}
 use Rattle.session.proofs.Room.{cut-shorter, not-ended, not-past, same-count, too-long}
 
 -- the part shown is the waiting line without its terminator
@@ -190,8 +190,7 @@ served c input answers a r h =
       offers = λ k. offer-served input answers s w (a .rest) (a .count) (a .rows) i within k _ (offer-case s w (take k (a .rest)));
       asks = asked s w (sound-now input answers s w (a .rest) (a .count) (a .rows) i);
       answering = λ table hit e room.
-          answer-served input answers s w (a .rest) (a .count) (a .rows) i (length table) hit _ (answer-case s w (length table) hit)
-          (waiting-line s w e .1) room;
+          rw (answer-gives input answers s w (a .rest) (a .count) (a .rows) i (length table) hit (waiting-line s w e .1) room);
       tells = told-served input answers s w (a .rest) (a .count) (a .rows) i;
       records = record-served input answers s w (a .rest) (a .count) (a .rows) i;
       carries = carried input answers a i within;
