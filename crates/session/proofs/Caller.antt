@@ -19,13 +19,15 @@ use Rattle.definition.specs.State.{stateNext}
 use Rattle.definition.specs.Text.{firstPlace, lines}
 use Rattle.definition.proofs.Terminator.{firstLength, line-ends, lines-head, lines-rest, lines-whole}
 use Rattle.session.specs.declared.Answering.{Answering}
+use Rattle.session.specs.declared.Answering.the-variants.{AnswerRefused, Give}
 use Rattle.session.specs.declared.Input.{Input}
 use Rattle.session.specs.declared.Input.the-variants.{Open, Ended, QuitFound}
 use Rattle.session.specs.declared.Offering.{Offering}
+use Rattle.session.specs.declared.Offering.the-variants.{OfferRefused, Idle, Take}
 use Rattle.session.specs.declared.Session.{Session}
 use Rattle.session.specs.declared.Waiting.{Waiting}
 use Rattle.session.specs.declared.Waiting.the-variants.{LineWaits, NoneWaits, WaitingRefused}
-use Rattle.session.specs.Calls.{answerAnswer, answerRows, answerSession, answerTable, answered, answeredTable, answering, beforeQuit, belowOne, fitting, idle, inputTold, offerAnswer, offerWindow, offered, offeredWindow, offering, opened, opening, putRows, quitFront, recorded, recording, remains, shownLine, shownWhere, stepped, stored, storedWindow, taking, told, toldSession, waiting}
+use Rattle.session.specs.Calls.{answerAnswer, answerRows, answerSession, answerTable, answered, answeredTable, answering, beforeQuit, belowOne, idle, inputTold, offerAnswer, offerWindow, offered, offeredWindow, offering, opened, opening, putRows, quitFront, recorded, recording, remains, shownLine, shownWhere, stepped, stored, taking, told, toldSession, waiting}
 use Rattle.session.specs.Caller.{waitingIn, unfinishedIn, waitingBytes, unfinishedBytes, wholeBytes, loneBytes, Reached, opens, offers, answers, tells, Agreeing, Answers, Balance, NothingTwice, Offers, OfferServed, Others, Progress, RefusalsChangeNothing, RowsStay, WhenAndOnlyThen, WindowStays}
 use Rattle.session.specs.Held.{heldBytes, isOn, isOpen, keptFrom, lineBytes, shown, unanswered, waits}
 use Rattle.session.specs.Sound.{agrees, closed, sound, takenBytes, tests}
@@ -35,7 +37,7 @@ use Rattle.session.proofs.Cases.{OfferCase, unsound, idling, quits, siz
 use Rattle.session.proofs.Cases as Cases
 use Rattle.session.proofs.History.{answerRows-most}
 use Rattle.session.proofs.Invariant.{unanswered-length}
-use Rattle.session.proofs.Keeps.{line-le, agree-answer, agree-offer, agree-opened, agree-told, fitting-room, served-fresh, sound-agrees, sound-window}
+use Rattle.session.proofs.Keeps.{GivenIf, TakenIf, answer-given, offer-taken, line-le, agree-answer, agree-offer, agree-opened, agree-told, served-fresh}
 use Rattle.session.proofs.Taking.{stored-beyond, stored-length}
 
 -- # Reached sessions
@@ -51,24 +53,16 @@ agreeing n s r = agrees-of s (reached-agree n s r)
 
 -- # Refusals change nothing
 
-offer-unchanged : (s : Session) (w piece : List ℕ) (o : Offering) → OfferCase s w piece o → (offerAnswer o s w piece .refusal ≡ 0 → ⊥)
+offer-unchanged : (o : Offering) (s : Session) (w piece : List ℕ) → (offerAnswer o s w piece .refusal ≡ 0 → ⊥)
     → (offerAnswer o s w piece .session ≡ s) × (offerAnswer o s w piece .taken ≡ 0) × (offerWindow o s w piece ≡ w)
-unfolding taking
-offer-unchanged s w piece _ (unsound e) h = (refl, refl, refl)
-offer-unchanged s w piece _ (idling e d) h = (refl, refl, refl)
-offer-unchanged s w piece _ (quits e d q) h = absurd (h refl)
-offer-unchanged s w piece _ (sized p m) h = (refl, refl, refl)
-offer-unchanged s w piece _ (full p m v f) h = (refl, refl, refl)
-offer-unchanged s w piece _ (takes p m v) h = absurd (h refl)
+offer-unchanged (OfferRefused k) s w piece h = (refl, refl, refl)
+offer-unchanged Idle s w piece h = (refl, refl, refl)
+offer-unchanged (Take n quit) s w piece h = absurd (h refl)
 
-answer-unchanged : (s : Session) (w table : List ℕ) (hit : Bool) (o : Answering) → AnswerCase s w (length table) hit o
-    → (answerAnswer o s w hit .refusal ≡ 0 → ⊥)
+answer-unchanged : (o : Answering) (s : Session) (w table : List ℕ) (hit : Bool) → (answerAnswer o s w hit .refusal ≡ 0 → ⊥)
     → (answerAnswer o s w hit .session ≡ s) × (answerAnswer o s w hit .rows ≡ 0) × (answerTable o s w table hit ≡ table)
-answer-unchanged s w table hit _ (Cases.unsound e) h = (refl, refl, refl)
-answer-unchanged s w table hit _ (none e v) h = (refl, refl, refl)
-answer-unchanged s w table hit _ (below e v b) h = (refl, refl, refl)
-answer-unchanged s w table hit _ (few e v b m) h = (refl, refl, refl)
-answer-unchanged s w table hit _ (gives e v b m) h = absurd (h refl)
+answer-unchanged (AnswerRefused k) s w table hit h = (refl, refl, refl)
+answer-unchanged Give s w table hit h = absurd (h refl)
 
 tell-unchanged : (b : Bool) (s : Session) → (_≡_ {A = ℕ} (cond b 0 6) 0 → ⊥) → cond b (toldSession s) s ≡ s
 tell-unchanged true s h = absurd (h refl)
@@ -87,8 +81,8 @@ pub refusals-change-nothing : RefusalsChangeNothing
 unfolding offered offeredWindow offering answered answeredTable answering told recorded recording shownLine opened waiting agrees tests allowed contextual
 refusals-change-nothing s w piece table hit c window =
     record {
-      offer = offer-unchanged s w piece _ (offer-case s w piece);
-      answer = answer-unchanged s w table hit _ (answer-case s w (length table) hit);
+      offer = offer-unchanged (offering s w piece) s w piece;
+      answer = answer-unchanged (answering s w (length table) hit) s w table hit;
       tell = tell-unchanged (agrees s) s;
       record-zeros = λ h. rw (ne-eqb (recording s) 0 h);
       part-empty = part-unshown (waiting s w) s w;
@@ -249,62 +243,49 @@ unfolding flatten
 flat-length [] = refl
 flat-length (r ∷ rs) = omega (arith, flat-length rs)
 
-rows-stay-case : (s : Session) (w table : List ℕ) (hit : Bool) (o : Answering) → AnswerCase s w (length table) hit o
+rows-stay-of : (s : Session) (w table : List ℕ) (hit : Bool) (o : Answering) → GivenIf s w (length table) hit o
     → (answerAnswer o s w hit .rows ≤ s .settings .before + 2)
     × (length (answerTable o s w table hit) ≡ length table)
     × (drop (rowSize * answerAnswer o s w hit .rows) (answerTable o s w table hit) ≡ drop (rowSize * answerAnswer o s w hit .rows) table)
 unfolding putRows
-rows-stay-case s w table hit _ (Cases.unsound e) = (omega arith, refl, refl)
-rows-stay-case s w table hit _ (none e v) = (omega arith, refl, refl)
-rows-stay-case s w table hit _ (below e v b) = (omega arith, refl, refl)
-rows-stay-case s w table hit _ (few e v b m) = (omega arith, refl, refl)
-rows-stay-case s w table hit _ (gives e v b m) =
+rows-stay-of s w table hit (AnswerRefused k) g = (omega arith, refl, refl)
+rows-stay-of s w table hit Give g =
     let rs = answerRows s w hit in
     let n = rowSize * length rs in
     let front = flatten (map flat rs) in (
       answerRows-most s w hit,
-      omega (arith, length-append front (drop n table), flat-length rs, length-drop n table, m),
+      omega (arith, length-append front (drop n table), flat-length rs, length-drop n table, g .1),
       drop-at front (drop n table) n (flat-length rs),
     )
 
 pub rows-stay : RowsStay
 unfolding answered answeredTable
-rows-stay s w table hit = rows-stay-case s w table hit _ (answer-case s w (length table) hit)
+rows-stay s w table hit = rows-stay-of s w table hit (answering s w (length table) hit) (answer-given s w (length table) hit)
 
-taken-stays : (s : Session) (w piece : List ℕ) → sound s (length w) ≡ true
-    → (length (storedWindow s w piece (fitting s w piece)) ≡ length w)
-    × (drop (s .end - keptFrom s w + fitting s w piece) (storedWindow s w piece (fitting s w piece)) ≡ drop (s .end - keptFrom s w + fitting s w piece) w)
-taken-stays s w piece e =
-    let a = sound-agrees s (length w) e in
-    let r = fitting-room s w piece a in
-    let size = sound-window s (length w) e in
-    (stored-length s w piece (fitting s w piece) a r size, stored-beyond s w piece (fitting s w piece) a r size)
-
-window-stays-case : (s : Session) (w piece : List ℕ) (o : Offering) → OfferCase s w piece o
+window-stays-of : (s : Session) (w piece : List ℕ) (o : Offering) → TakenIf s w piece o
     → (length (offerWindow o s w piece) ≡ length w)
     × (drop (offerAnswer o s w piece .session .end) (offerWindow o s w piece) ≡ drop (offerAnswer o s w piece .session .end) w)
-unfolding taking stored
-window-stays-case s w piece _ (unsound e) = (refl, refl)
-window-stays-case s w piece _ (idling e d) = (refl, refl)
-window-stays-case s w piece _ (quits e d q) = taken-stays s w piece e
-window-stays-case s w piece _ (sized p m) = (refl, refl)
-window-stays-case s w piece _ (full p m v f) = (refl, refl)
-window-stays-case s w piece _ (takes p m v) = taken-stays s w piece (p .0)
+unfolding stored
+window-stays-of s w piece (OfferRefused k) t = (refl, refl)
+window-stays-of s w piece Idle t = (refl, refl)
+window-stays-of s w piece (Take n quit) t =
+    (stored-length s w piece n (t .agree) (t .room) (t .size), stored-beyond s w piece n (t .agree) (t .room) (t .size))
 
 pub window-stays : WindowStays
 unfolding offered offeredWindow
-window-stays s w piece = window-stays-case s w piece _ (offer-case s w piece)
+window-stays s w piece = window-stays-of s w piece (offering s w piece) (offer-taken s w piece)
 
 -- # Nothing twice
 
-idle-case : (s : Session) (w piece : List ℕ) (o : Offering) → OfferCase s w piece o → idle s piece ≡ true
-    → (offerAnswer o s w piece .taken ≡ 0) × (offerAnswer o s w piece .session ≡ s) × (offerWindow o s w piece ≡ w)
-idle-case s w piece _ (unsound e) h = (refl, refl, refl)
-idle-case s w piece _ (idling e d) h = (refl, refl, refl)
-idle-case s w piece _ (quits e d q) h = absurd (true≢false (sym h ∙ d))
-idle-case s w piece _ (sized p m) h = (refl, refl, refl)
-idle-case s w piece _ (full p m v f) h = (refl, refl, refl)
-idle-case s w piece _ (takes p m v) h = absurd (true≢false (sym h ∙ p .1))
+idle-of : (b : Bool) (s : Session) (w piece : List ℕ)
+    → let o = cond (not b) (OfferRefused 6) Idle in
+    (offerAnswer o s w piece .taken ≡ 0) × (offerAnswer o s w piece .session ≡ s) × (offerWindow o s w piece ≡ w)
+idle-of true s w piece = (refl, refl, refl)
+idle-of false s w piece = (refl, refl, refl)
+
+idle-offer : (s : Session) (w piece : List ℕ) → idle s piece ≡ true → offering s w piece ≡ cond (not (sound s (length w))) (OfferRefused 6) Idle
+unfolding offering
+idle-offer s w piece e = rw e
 
 told-same : (b : Bool) (s : Session) → inputTold (s .going) (s .input) ≡ s .input → cond b (toldSession s) s ≡ s
 unfolding toldSession
@@ -347,36 +328,29 @@ told-stopped NonmatchMet n h = refl
 pub nothing-twice : NothingTwice
 unfolding offered offeredWindow told
 nothing-twice s w piece = (
-  idle-case s w piece _ (offer-case s w piece),
+  λ e. rw (idle-offer s w piece e) (idle-of (sound s (length w)) s w piece),
   λ h. told-same (agrees s) s (told-again (s .going) (s .input) h),
   λ h. told-same (agrees s) s (told-stopped (s .going) (s .input) h),
 )
 
 -- # Bytes taken
 
-offer-taken : (s : Session) (w piece : List ℕ) (o : Offering) → OfferCase s w piece o → Agree s
+offer-bytes : (s : Session) (w piece : List ℕ) (o : Offering) → Agree s
     → takenBytes s + offerAnswer o s w piece .taken ≡ takenBytes (offerAnswer o s w piece .session)
-unfolding taking stored takenBytes keptFrom
-offer-taken s w piece _ (unsound e) a = omega arith
-offer-taken s w piece _ (idling e d) a = omega arith
-offer-taken s w piece _ (quits e d q) a = omega arith
-offer-taken s w piece _ (sized p m) a = omega arith
-offer-taken s w piece _ (full p m v f) a = omega arith
-offer-taken s w piece _ (takes p m v) a = omega arith
+unfolding stored takenBytes keptFrom
+offer-bytes s w piece (OfferRefused k) a = omega arith
+offer-bytes s w piece Idle a = omega arith
+offer-bytes s w piece (Take n quit) a = omega arith
 
-answer-taken : (s : Session) (w : List ℕ) (table : ℕ) (hit : Bool) (o : Answering) → AnswerCase s w table hit o
-    → takenBytes (answerAnswer o s w hit .session) ≡ takenBytes s
+answer-bytes : (s : Session) (w : List ℕ) (hit : Bool) (o : Answering) → takenBytes (answerAnswer o s w hit .session) ≡ takenBytes s
 unfolding takenBytes answerSession stepped stateNext shown
-answer-taken s w table hit _ (Cases.unsound e) = refl
-answer-taken s w table hit _ (none e v) = refl
-answer-taken s w table hit _ (below e v b) = refl
-answer-taken s w table hit _ (few e v b m) = refl
-answer-taken s w table hit _ (gives e v b m) = omega (arith, line-le s w)
+answer-bytes s w hit (AnswerRefused k) = refl
+answer-bytes s w hit Give = omega (arith, line-le s w)
 
-told-taken : (b : Bool) (s : Session) → takenBytes (cond b (toldSession s) s) ≡ takenBytes s
+told-bytes : (b : Bool) (s : Session) → takenBytes (cond b (toldSession s) s) ≡ takenBytes s
 unfolding takenBytes toldSession
-told-taken true s = refl
-told-taken false s = refl
+told-bytes true s = refl
+told-bytes false s = refl
 
 opened-taken : (c : Settings) (window : ℕ) → opened c window .refusal ≡ 0 → 0 ≡ takenBytes (opened c window .session)
 unfolding takenBytes
@@ -392,10 +366,10 @@ unfolding offered answered told
 reached-taken _ _ (opens c window e) = opened-taken c window e
 reached-taken _ _ (offers {n = n} {s = s} w piece r) =
     ap (λ m. m + offerAnswer (offering s w piece) s w piece .taken) (reached-taken n s r)
-    ∙ offer-taken s w piece _ (offer-case s w piece) (reached-agree n s r)
+    ∙ offer-bytes s w piece (offering s w piece) (reached-agree n s r)
 reached-taken _ _ (answers {n = n} {s = s} w table hit r) =
-    reached-taken n s r ∙ sym (answer-taken s w (length table) hit _ (answer-case s w (length table) hit))
-reached-taken _ _ (tells {n = n} {s = s} r) = reached-taken n s r ∙ sym (told-taken (agrees s) s)
+    reached-taken n s r ∙ sym (answer-bytes s w hit (answering s w (length table) hit))
+reached-taken _ _ (tells {n = n} {s = s} r) = reached-taken n s r ∙ sym (told-bytes (agrees s) s)
 
 -- every byte is of a whole line or of none
 whole-lone : (t : ℕ) (ls : List (List ℕ)) → wholeBytes t ls + loneBytes t ls ≡ length (flatten ls)

@@ -14,17 +14,16 @@ use Rattle.definition.specs.Bounds.{maxInput}
 use Rattle.definition.specs.Rows.{Row, rowSize}
 use Rattle.definition.specs.Text.{text}
 use Rattle.definition.proofs.Uncut.{text-append}
-use Rattle.session.specs.declared.Answering.{Answering}
 use Rattle.session.specs.declared.Input.{Input}
 use Rattle.session.specs.declared.Input.the-variants.{Open, Ended, QuitFound}
 use Rattle.session.specs.declared.Offering.{Offering}
 use Rattle.session.specs.declared.Session.{Session}
 use Rattle.session.specs.declared.Waiting.the-variants.{LineWaits}
-use Rattle.session.specs.Calls.{answerAnswer, answerSession, answered, beforeQuit, fitting, idle, inputTold, offerAnswer, offered, quitFront, recorded, recording, remains, stepped, stored, taking, told, toldSession, waiting}
+use Rattle.session.specs.Calls.{answerSession, answered, beforeQuit, fitting, idle, inputTold, offerAnswer, offered, quitFront, recorded, recording, remains, stepped, stored, taking, told, toldSession, waiting}
 use Rattle.session.specs.Held.{heldBytes, isOn, isOpen, keptFrom, lineBytes, unanswered, waits}
 use Rattle.session.specs.Promises.{Ends, NoRoom, Within}
 use Rattle.session.specs.Run.{At, Steps, here, offer, answer, tell, atAnswer, atEnd, atOffer}
-use Rattle.session.specs.Sound.{sound, takenBytes}
+use Rattle.session.specs.Sound.{takenBytes}
 use Rattle.session.proofs.Agree.{Agree, agrees-of}
 use Rattle.session.proofs.Cases.{OfferCase, unsound, idling, quits, sized, full, takes, offer-case}
 use Rattle.session.proofs.History.{InvAt, answer-gives, inv-steps, join, steps-stay}

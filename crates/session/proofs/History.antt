@@ -1,7 +1,7 @@
 -- The invariant holds at every moment of every run.
 use Prim.Native.Nat.{ℕ, _+_, _*_, _≤_}
 use mathlib.Core.Path.{_≡_, refl, sym, _∙_, ap, subst}
-use mathlib.Core.Bool.{Bool, true, false, cond, not, and-false, true≢false}
+use mathlib.Core.Bool.{Bool, true, false, cond, not, and-false}
 use mathlib.Core.List.{List, [], _∷_, _++_, cons≢nil, flatten}
 use native.Mathlib.Omega.{arith}
 use lib.Dec.{eqb}
@@ -29,17 +29,16 @@ use Rattle.session.specs.declared.Offering.the-variants.{OfferRefused, I
 use Rattle.session.specs.declared.Session.{Session}
 use Rattle.session.specs.declared.Waiting.the-variants.{LineWaits, NoneWaits, WaitingRefused}
 use Rattle.session.specs.Calls as Calls
-use Rattle.session.specs.Calls.{answerAnswer, answerRows, answerSession, answerTable, answered, answeredTable, beforeRows, belowOne, answering, fitting, fresh, inputTold, offerAnswer, offerWindow, offered, offeredWindow, offering, opening, putRows, replacedIn, stepped, stored, taking, told, toldSession, waiting}
+use Rattle.session.specs.Calls.{answerAnswer, answerRows, answerSession, answered, answeredTable, beforeRows, belowOne, answering, fresh, inputTold, offerAnswer, offerWindow, offered, offeredWindow, offering, opening, putRows, replacedIn, stepped, stored, told, toldSession, waiting}
 use Rattle.session.specs.Held.{backFrom, shown, sinceLines, unanswered, waits}
 use Rattle.session.specs.Promises.{keptBefore}
 use Rattle.session.specs.Run.{At, Run, Steps, here, offer, answer, ask, tell, atStart, rowsIn}
 use Rattle.session.specs.Sound.{agrees, sound}
 use Rattle.session.proofs.Agree.{agrees-of}
-use Rattle.session.proofs.Cases.{OfferCase, unsound, idling, quits, sized, full, takes, offer-case, AnswerCase, few, gives, none, below, answer-case}
-use Rattle.session.proofs.Cases as Cases
+use Rattle.session.proofs.Cases.{few}
 use Rattle.session.proofs.Giving.{inv-given, rowsIn-put, text-none}
 use Rattle.session.proofs.Invariant.{Inv, InputNow, sound-now}
-use Rattle.session.proofs.Keeps.{TakenIf, offer-taken, agree-fresh, agree-toldSession, fitting-room, served-fresh}
+use Rattle.session.proofs.Keeps.{TakenIf, offer-taken, agree-fresh, agree-toldSession, served-fresh}
 use Rattle.session.proofs.Taking.{inv-taken}
 
 -- # Opening

@@ -85,6 +85,7 @@ sound-window s n e = eqb-true n (s .window) (and-eq-true-iff (agrees s) (eqb n (
 
 -- what a decision to take implies; the others imply nothing
 pub record Taken (s : Session) (w piece : List ℕ) (n : ℕ) (quit : Bool) : Type 0 where
+  pub agree : Agree s
   pub size : length w ≡ s .window
   pub room : Room s w piece n
   pub flag : (eqb n (beforeQuit s piece) && ltb n (length piece)) ≡ quit
@@ -98,6 +99,7 @@ taking-taken : (s : Session) (w piece : List ℕ) → sound s (length w) ≡ tru
 unfolding taking
 taking-taken s w piece e =
     record {
+      agree = sound-agrees s (length w) e;
       size = sound-window s (length w) e;
       room = fitting-room s w piece (sound-agrees s (length w) e);
       flag = refl;
