@@ -31,10 +31,6 @@ use Rattle.session.proofs.Invariant.{Inv, sound-now, taken-is, unanswer
 use Rattle.session.proofs.Keeps.{is-on, line-le, waiting-length}
 use Rattle.session.proofs.Taking.{quit-le, rest-text, take-uncut}
 
-positive : (n : ℕ) → (n ≡ 0 → ⊥) → 0 < n
-positive zero h = absurd (h refl)
-positive (suc n) h = omega arith
-
 pub not-front : (b n : ℕ) → 0 < n → (eqb b 0 && ltb 0 n) ≡ false → 0 < b
 not-front b n h e = elim (decLe b 0) [
   | yes k ↦
@@ -53,7 +49,7 @@ not-idle s piece = go (eqb (length piece) 0) (isOpen (s .input)) (isOn (s .going
     go true o g e i h k = absurd (true≢false k)
     go false false g e i h k = absurd (true≢false k)
     go false true false e i h k = absurd (true≢false k)
-    go false true true e i h k = (positive (length piece) (eqb-false (length piece) 0 e), i, is-on (s .going) h)
+    go false true true e i h k = (omega (arith, eqb-false (length piece) 0 e), i, is-on (s .going) h)
 
 -- how much is left to do
 abbrev openBit : Input → ℕ
@@ -93,9 +89,9 @@ front-quits s w piece e =
     and-eq-true-iff _ _ .1
     (eq-eqb _ (beforeQuit s piece) (omega arith), lt-ltb _ (length piece) (omega (arith, ltb-true 0 (length piece) (both .1))))
 
-or-right : (a b : Bool) → (a || b) ≡ false → b ≡ false
-or-right true b e = absurd (true≢false e)
-or-right false b e = e
+pub or-false : (a b : Bool) → (a || b) ≡ false → (a ≡ false) × (b ≡ false)
+or-false true b e = absurd (true≢false e)
+or-false false b e = (refl, e)
 
 is-open : (n : Input) → isOpen n ≡ true → n ≡ Open
 is-open Open e = refl
@@ -216,7 +212,7 @@ module _ (input : List ℕ) (answers : ℕ → Bool) (s : Session) (w rest : Lis
   nothing-held v g o =
       let n = length (unanswered s w) in
       let e : (ltb (lineBytes s w) n || ltb 0 n) ≡ false = rw (g, o) at v in
-      omega (arith, ltb-false 0 n (or-right (ltb (lineBytes s w) n) (ltb 0 n) e), unanswered-length s w (i .agree) (i .window-is))
+      omega (arith, ltb-false 0 n (or-false (ltb (lineBytes s w) n) (ltb 0 n) e .1), unanswered-length s w (i .agree) (i .window-is))
 
 -- # A turn
 

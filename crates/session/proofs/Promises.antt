@@ -15,13 +15,13 @@ use Rattle.definition.specs.Rows.{Row}
 use Rattle.definition.specs.State.{State, begun, rows, state, trim}
 use Rattle.definition.specs.Text.{firstPlace, handed, lines, text}
 use Rattle.definition.proofs.Kept.{rows-append}
-use Rattle.definition.proofs.Same.{same-end, same-rows}
+use Rattle.definition.proofs.Same.{same-end, same-lines, same-rows}
 use Rattle.definition.proofs.Terminator.{first-le, handed-next}
 use Rattle.session.specs.declared.Session.{Session}
 use Rattle.session.specs.declared.Waiting.the-variants.{LineWaits, NoneWaits, WaitingRefused}
 use Rattle.session.specs.Calls.{answered, offered, recorded, shownLine, waiting}
 use Rattle.session.specs.Held.{lineBytes, lineLength, shown, unanswered, waits}
-use Rattle.session.specs.Promises.{Begins, Beginning, Cut, Ends, Finished, Handed, Memory, NoRoom, Room, Served, TooLong, Within}
+use Rattle.session.specs.Promises.{Begins, Beginning, Prompt, Cut, Ends, Finished, Handed, Memory, NoRoom, Room, Served, TooLong, Within}
 use Rattle.session.specs.Run.{At, Run, Steps}
 use Rattle.session.specs.Sound.{sound}
 use Rattle.session.proofs.Carry.{carried, offer-served, record-served, told-served}
@@ -95,6 +95,17 @@ beginning c input answers a r =
     let i = inv-run c input answers a r in
     subst (λ x. Begins (a .rows) (rowsOf x input answers)) (run-settings c input answers a r)
     (_, sym (rows-all input answers (a .session) (a .window) (a .rest) (a .count) (a .rows) i))
+
+pub prompt : Prompt
+prompt c input answers a r =
+    let i = inv-run c input answers a r in
+    subst
+    (λ x. (before later : List (List ℕ))
+    × (lines (x .terminator) (text x input) ≡ before ++ later)
+    × (length before ≡ a .count)
+    × (a .rows ≡ goneLines x answers before .rows))
+    (run-settings c input answers a r)
+    (i .gone, _, i .lines-are, sym (i .count-is), i .rows-are ∙ sym (same-lines (a .session .settings) answers (i .gone) .0))
 
 pub cut : Cut
 cut c input answers a b r q e f =

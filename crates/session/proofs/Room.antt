@@ -1,7 +1,7 @@
 -- The room rule: where a run is refused by 3 its next line does not fit, and no run gets past such a line.
 use Prim.Native.Nat.{ℕ, _+_, _-_, _≤_, _<_}
 use mathlib.Core.Path.{_≡_, refl, sym, _∙_, ap, ap₂, subst}
-use mathlib.Core.Bool.{Bool, true, false, not, _&&_, _||_}
+use mathlib.Core.Bool.{Bool, false, not, _&&_, _||_}
 use mathlib.Core.List.{List, [], _∷_, _++_, append-nil, head-eq-of-cons-eq, tail-eq-of-cons-eq}
 use native.Mathlib.Decide.{decLt}
 use native.Mathlib.Omega.{arith}
@@ -21,7 +21,7 @@ use Rattle.session.specs.declared.Session.{Session}
 use Rattle.session.specs.Calls.{idle, offered}
 use Rattle.session.specs.Held.{heldBytes, isOn, isOpen, keptBytes, lineBytes, unanswered, waits}
 use Rattle.session.specs.Promises.{Fitted, TooLong, keptBefore}
-use Rattle.session.proofs.Carry.{more-text, not-idle}
+use Rattle.session.proofs.Carry.{more-text, not-idle, or-false}
 use Rattle.session.proofs.Cases.{offer-case, offer-only}
 use Rattle.session.proofs.Finish.{Done, stopped, ended, nothing-left}
 use Rattle.session.proofs.Giving.{going-is, kept-before}
@@ -61,10 +61,6 @@ same-count c input answers n p q t u = elim (decLt p q) [
 
 -- # Refused for room
 
-or-left : (a b : Bool) → (a || b) ≡ false → a ≡ false
-or-left true b e = e
-or-left false b e = refl
-
 -- a line longer than what is held, after what is kept, exceeds the window
 over : (s : Session) (w : List ℕ) → s .window ≤ heldBytes s w → (n kept len : ℕ) → n ≡ s .window → kept ≡ keptBytes s w → s .end - s .next < len
     → n < kept + len
@@ -80,7 +76,7 @@ module _ (input : List ℕ) (answers : ℕ → Bool) (s : Session) (w rest : Lis
       let u = unanswered s w in
       let p = firstPlace (s .settings .terminator) u in
       let e : (ltb p (length u) || (not (isOpen (s .input)) && ltb 0 (length u))) ≡ false = rw (ap isOn g) at v in
-      ltb-false p (length u) (or-left (ltb p (length u)) (not (isOpen (s .input)) && ltb 0 (length u)) e)
+      ltb-false p (length u) (or-false (ltb p (length u)) (not (isOpen (s .input)) && ltb 0 (length u)) e .0)
 
   pub too-long : (k : ℕ) → offered s w (take k rest) .refusal ≡ 3
       → (t : TooLong (s .settings) input answers (length w) count) × (given ≡ goneLines (s .settings) answers (t .before) .rows)

@@ -44,6 +44,16 @@ abbrev pub Beginning : Type 0
 Beginning =
     (c : Settings) (input : List ℕ) (answers : ℕ → Bool) (a : At) → Run c input answers a → Begins (a .rows) (rowsOf c input answers)
 
+-- Prompt. "rows are fixed per answer": at every moment the rows given are the definition's rows of the lines answered so far, no more
+-- and no fewer.
+abbrev pub Prompt : Type 0
+Prompt =
+    (c : Settings) (input : List ℕ) (answers : ℕ → Bool) (a : At) → Run c input answers a
+    → (before later : List (List ℕ))
+    × (lines (c .terminator) (text c input) ≡ before ++ later)
+    × (length before ≡ a .count)
+    × (a .rows ≡ goneLines c answers before .rows)
+
 -- Cut. Demand 3: "However the input is cut, and whatever the window": two finished runs of one input, settings and answers gave the same rows
 -- and the same end record.
 abbrev pub Cut : Type 0
