@@ -55,8 +55,8 @@ pub struct End {
     pub offset: u64,
 }
 
-// The largest value each may take. The specs name the same bounds in Bounds.antt, and a proof of any function that
-// tests one against the other fails where the two differ.
+// The largest value each may take. specs/Bounds.antt has the same numbers for the contracts, since a definition cannot
+// name these.
 pub const MAX_CONTEXT: usize = 1_000;
 
 pub const MAX_LIMIT: u64 = 4_294_967_295;
