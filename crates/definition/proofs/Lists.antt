@@ -1,7 +1,7 @@
--- Laws of lists that the definition leans on and the library lacks: the last n of a list.
+-- Laws of lists that the definition leans on and the library lacks: the last n of a list, and lists joined.
 use Prim.Native.Nat.{ℕ, _+_, _-_, _≤_}
-use mathlib.Core.Path.{_≡_, sym, _∙_, ap}
-use mathlib.Core.List.{List, _++_}
+use mathlib.Core.Path.{_≡_, refl, sym, _∙_, ap}
+use mathlib.Core.List.{List, [], _∷_, _++_, append-assoc, flatten}
 use native.Mathlib.Decide.{decLe}
 use native.Mathlib.Omega.{arith}
 use lib.ListN.{length, drop, length-append, length-drop}
@@ -42,3 +42,8 @@ module _ {ℓ} {A : Type ℓ} where
       lastOf-append n (lastOf n xs) ys
       ∙ ap (λ zs. zs ++ lastOf n ys) (lastOf-lastOf (n - length ys) n xs (omega arith))
       ∙ sym (lastOf-append n xs ys)
+
+pub flatten-append : (xs ys : List (List ℕ)) → flatten (xs ++ ys) ≡ flatten xs ++ flatten ys
+unfolding flatten
+flatten-append [] ys = refl
+flatten-append (x ∷ xs) ys = rw (flatten-append xs ys) (sym (append-assoc x (flatten xs) (flatten ys)))

@@ -1,5 +1,5 @@
 -- Facts about the terminator, proved once over that byte: how a text falls into lines, and what of a line is handed to the matcher.
-use Prim.Native.Nat.{ℕ, zero, suc, _+_, _≤_, _<_, min}
+use Prim.Native.Nat.{ℕ, zero, suc, _+_, _-_, _≤_, _<_, min}
 use mathlib.Core.Path.{_≡_, refl, sym, _∙_, ap, ap₂}
 use mathlib.Core.Bool.{Bool, true, false, cond}
 use mathlib.Core.List.{List, [], _∷_, _++_, append-assoc, append-nil, flatten, tail-eq-of-cons-eq}
@@ -7,11 +7,13 @@ use mathlib.Core.Logic.{_⊎_, inl, inr}
 use native.Mathlib.Decide.{decLt}
 use native.Mathlib.Omega.{arith}
 use lib.Dec.{eqb}
-use lib.ListN.{length, take, drop, length-append, length-take}
-use lib.Seq.{take-length, drop-length, take-append-le, drop-append-le}
-use borrow.Author.Tests.{eqb-true}
+use lib.ListN.{length, take, drop, length-append, length-take, take-append-drop}
+use lib.Seq.{take-length, drop-length, take-append-le, drop-append-le, take-at, drop-at}
+use borrow.Author.Tests.{eqb-true, eq-eqb}
+use Rattle.definition.specs.Definition.{lastOf}
 use Rattle.definition.specs.Laws.{ConvertSame, LinesWhole, LinesFirst, LinesRest, HandedWhole}
-use Rattle.definition.specs.Text.{upTo, firstPlace, replaced, onto, lines, handed}
+use Rattle.definition.specs.Text.{upTo, firstPlace, firstLength, replaced, onto, lines, handed}
+use Rattle.definition.proofs.Lists.{flatten-append}
 
 pub convert-same : ConvertSame
 unfolding replaced
@@ -131,10 +133,6 @@ first-append-none t xs ys h = ap length (upTo-append-none t xs ys h) ∙ length-
 
 -- # The next line of bytes of which only a part is at hand
 
--- the length of the first line, with its terminator
-abbrev pub firstLength : ℕ → List ℕ → ℕ
-firstLength t xs = min (firstPlace t xs + 1) (length xs)
-
 -- The first line, whether it has a terminator or not.
 pub lines-head : (t : ℕ) (xs : List ℕ) → 0 < length xs → lines t xs ≡ take (firstLength t xs) xs ∷ lines t (drop (firstLength t xs) xs)
 unfolding lines
@@ -229,3 +227,85 @@ lines-one t xs h = elim (decLt (firstPlace t xs) (length xs)) [
 
 pub whole-line : (t : ℕ) (xs : List ℕ) → firstPlace t xs < length xs → Whole t (take (firstLength t xs) xs)
 whole-line t xs h ys = rw (lines-one t xs (omega arith)) (line-then t (take (firstLength t xs) xs) ys (line-ends t xs h))
+
+onto-append : (x : ℕ) (ls ms : List (List ℕ)) → 0 < length ls → onto x (ls ++ ms) ≡ onto x ls ++ ms
+unfolding onto
+onto-append x [] ms h = absurd (omega arith)
+onto-append x (l ∷ ls) ms h = refl
+
+-- Bytes that end in a terminator.
+pub whole-ended : (t : ℕ) (xs : List ℕ) → Whole t (xs ++ (t ∷ []))
+unfolding lines
+whole-ended t [] ys = rw (eq-eqb t t refl)
+whole-ended t (x ∷ xs) ys = go (eqb x t) (whole-ended t xs ys)
+  where
+    some : 0 < length (lines t (xs ++ (t ∷ [])))
+    some = rw (lines-head t (xs ++ (t ∷ [])) (omega (arith, length-append xs (t ∷ [])))) (omega arith)
+
+    go : (b : Bool) → lines t ((xs ++ (t ∷ [])) ++ ys) ≡ lines t (xs ++ (t ∷ [])) ++ lines t ys
+        → cond b ((x ∷ []) ∷ lines t ((xs ++ (t ∷ [])) ++ ys)) (onto x (lines t ((xs ++ (t ∷ [])) ++ ys)))
+        ≡ cond b ((x ∷ []) ∷ lines t (xs ++ (t ∷ []))) (onto x (lines t (xs ++ (t ∷ [])))) ++ lines t ys
+    go true ih = ap (λ ls. (x ∷ []) ∷ ls) ih
+    go false ih = ap (onto x) ih ∙ onto-append x (lines t (xs ++ (t ∷ []))) (lines t ys) some
+
+-- where a line follows the first, the first has its terminator
+first-ended : (t : ℕ) (xs : List ℕ) → 0 < length (lines t (drop (firstLength t xs) xs)) → firstPlace t xs < length xs
+unfolding lines
+first-ended t xs h = elim (decLt (firstPlace t xs) (length xs)) [
+  | yes k ↦ k
+  | no k ↦
+      let n : firstLength t xs ≡ length xs = omega arith in
+      absurd (omega (arith, rw (n, drop-length xs) at h))
+]
+
+-- All lines up to some line are whole, but for the very last, ..
+pub whole-take : (j t : ℕ) (xs : List ℕ) → j < length (lines t xs) → Whole t (flatten (take j (lines t xs)))
+unfolding lines flatten
+whole-take zero t xs h = whole-none t
+whole-take (suc j) t [] h = absurd (omega arith)
+whole-take (suc j) t (x ∷ xs) h =
+    let head = lines-head t (x ∷ xs) (omega arith) in
+    let more : j < length (lines t (drop (firstLength t (x ∷ xs)) (x ∷ xs))) = omega (arith, rw head at h) in
+    rw head (whole-append t (take (firstLength t (x ∷ xs)) (x ∷ xs))
+    (flatten (take j (lines t (drop (firstLength t (x ∷ xs)) (x ∷ xs)))))
+    (whole-line t (x ∷ xs) (first-ended t (x ∷ xs) (omega arith)))
+    (whole-take j t (drop (firstLength t (x ∷ xs)) (x ∷ xs)) more))
+
+-- .. and are the lines of their bytes.
+pub lines-take : (j t : ℕ) (xs : List ℕ) → j < length (lines t xs) → lines t (flatten (take j (lines t xs))) ≡ take j (lines t xs)
+unfolding lines flatten
+lines-take zero t xs h = refl
+lines-take (suc j) t [] h = absurd (omega arith)
+lines-take (suc j) t (x ∷ xs) h =
+    let head = lines-head t (x ∷ xs) (omega arith) in
+    let rest = drop (firstLength t (x ∷ xs)) (x ∷ xs) in
+    let more : j < length (lines t rest) = omega (arith, rw head at h) in
+    rw head (whole-line t (x ∷ xs) (first-ended t (x ∷ xs) (omega arith)) (flatten (take j (lines t rest)))
+    ∙ rw (lines-one t (x ∷ xs) (omega arith), lines-take j t rest more))
+
+-- Bytes without a terminator but at their end are one line.
+pub lines-only : (t : ℕ) (xs : List ℕ) → 0 < length xs → length xs ≤ firstPlace t xs + 1 → lines t xs ≡ xs ∷ []
+unfolding lines
+lines-only t xs h k =
+    let n : firstLength t xs ≡ length xs = omega arith in
+    lines-head t xs h ∙ rw (n, take-length xs, drop-length xs)
+
+-- # The last lines
+
+-- Bytes fall, where the last n of their lines start, into the lines before and those lines.
+pub flatten-last : (n t : ℕ) (xs : List ℕ)
+    → (length (flatten (lastOf n (lines t xs))) ≤ length xs)
+    × (drop (length xs - length (flatten (lastOf n (lines t xs)))) xs ≡ flatten (lastOf n (lines t xs)))
+    × (take (length xs - length (flatten (lastOf n (lines t xs)))) xs ≡ flatten (take (length (lines t xs) - n) (lines t xs)))
+unfolding lastOf
+flatten-last n t xs =
+    let ls = lines t xs in
+    let j = length ls - n in
+    let front = flatten (take j ls) in
+    let back = flatten (drop j ls) in
+    let whole : front ++ back ≡ xs = sym (flatten-append (take j ls) (drop j ls)) ∙ ap flatten (take-append-drop j ls) ∙ lines-whole t xs in
+    let size : length front + length back ≡ length xs = sym (length-append front back) ∙ ap length whole in (
+      omega arith,
+      ap (λ ys. drop (length xs - length back) ys) (sym whole) ∙ drop-at front back (length xs - length back) (omega arith),
+      ap (λ ys. take (length xs - length back) ys) (sym whole) ∙ take-at front back (length xs - length back) (omega arith),
+    )

@@ -1,12 +1,16 @@
 -- 01, "Text", "Lines": what of the input is searched, how it falls into lines, and what the matcher is handed of a line.
-use Prim.Native.Nat.{ℕ}
+use Prim.Native.Nat.{ℕ, _+_, _-_, min}
 use mathlib.Core.Bool.{cond}
 use mathlib.Core.List.{List, [], _∷_, map}
 use lib.Dec.{eqb}
-use lib.ListN.{length}
+use lib.ListN.{length, take, drop}
 use Rattle.definition.specs.declared.Binary.{Binary}
 use Rattle.definition.specs.declared.Binary.the-variants.{Ignore, Quit, Convert}
 use Rattle.definition.specs.declared.Settings.{Settings}
+
+-- the bytes from one place up to another
+abbrev pub part : ℕ → ℕ → List ℕ → List ℕ
+part from to bytes = take (to - from) (drop from bytes)
 
 -- the bytes before the first b; all of them where there is none
 unfoldable pub upTo : ℕ → List ℕ → List ℕ
@@ -39,6 +43,10 @@ onto x (l ∷ ls) = (x ∷ l) ∷ ls
 unfoldable pub lines : ℕ → List ℕ → List (List ℕ)
 lines t [] = []
 lines t (x ∷ xs) = cond (eqb x t) ((x ∷ []) ∷ lines t xs) (onto x (lines t xs))
+
+-- the length of the first line, with its terminator
+abbrev pub firstLength : ℕ → List ℕ → ℕ
+firstLength t bytes = min (firstPlace t bytes + 1) (length bytes)
 
 -- "The matcher is handed the line without its terminator byte; a carriage return is an ordinary byte of the line."
 -- A line has its terminator only at its end.

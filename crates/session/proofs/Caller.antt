@@ -16,8 +16,8 @@ use Rattle.definition.specs.declared.Settings.{Settings}
 use Rattle.definition.specs.Bounds.{allowed, contextual, maxInput, maxWindow}
 use Rattle.definition.specs.Rows.{Row, flat, rowSize}
 use Rattle.definition.specs.State.{stateNext}
-use Rattle.definition.specs.Text.{firstPlace, lines}
-use Rattle.definition.proofs.Terminator.{firstLength, line-ends, lines-head, lines-rest, lines-whole}
+use Rattle.definition.specs.Text.{firstLength, firstPlace, lines}
+use Rattle.definition.proofs.Terminator.{line-ends, lines-head, lines-rest, lines-whole}
 use Rattle.session.specs.declared.Answering.{Answering}
 use Rattle.session.specs.declared.Answering.the-variants.{AnswerRefused, Give}
 use Rattle.session.specs.declared.Input.{Input}

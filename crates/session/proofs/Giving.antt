@@ -14,7 +14,8 @@ use Rattle.definition.specs.declared.Settings.{Settings}
 use Rattle.definition.specs.Definition.{Fate, match, after, other, norow, bytesOf, lastOf, keptLines}
 use Rattle.definition.specs.Rows.{Row, flat}
 use Rattle.definition.specs.State.{State, fateOf, nextLine, begun, rows, state, stateNext, stepRows, stepState, trim}
-use Rattle.definition.specs.Text.{firstPlace, lines, replaced, text, textUnder, upTo}
+use Rattle.definition.specs.Text.{firstPlace, lines, part, replaced, text, textUnder, upTo}
+use Rattle.definition.proofs.Lists.{flatten-append}
 use Rattle.definition.proofs.Kept.{rows-append, state-append, trim-stepRows, trim-stepState}
 use Rattle.definition.proofs.Same.{same-lines}
 use Rattle.definition.proofs.Terminator.{lines-next, lines-one, Whole, whole-append, whole-line, whole-none}
@@ -22,13 +23,13 @@ use Rattle.session.specs.declared.Input.{Input}
 use Rattle.session.specs.declared.Input.the-variants.{Open, Ended, QuitFound}
 use Rattle.session.specs.declared.Session.{Session}
 use Rattle.session.specs.Calls.{answerRows, answerSession, getsRow, stepped}
-use Rattle.session.specs.Held.{backFrom, isOpen, keptBytes, lineBytes, lineLength, part, shown, sinceLines, unanswered, waits}
+use Rattle.session.specs.Held.{backFrom, isOpen, keptBytes, lineBytes, lineLength, shown, sinceLines, unanswered, waits}
 use Rattle.session.specs.Promises.{Fitted, keptBefore}
 use Rattle.session.specs.Run.{rowsIn}
 use Rattle.session.proofs.Agree.{Agree}
 use Rattle.session.proofs.Invariant.{Inv, InputNow, unanswered-length}
 use Rattle.session.proofs.Keeps.{agree-given, line-le, waiting-length, waits-why}
-use Rattle.session.proofs.Parts.{backFrom-bytes, backFrom-last, backFrom-snoc, flatten-append, kept-le, part-drop, part-none, part-split}
+use Rattle.session.proofs.Parts.{backFrom-bytes, backFrom-last, backFrom-snoc, kept-le, part-drop, part-none, part-split}
 
 -- # Rows read back from the table
 

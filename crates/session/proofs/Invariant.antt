@@ -10,14 +10,14 @@ use Rattle.definition.specs.declared.Settings.{Settings}
 use Rattle.definition.specs.Definition.{quitMet}
 use Rattle.definition.specs.Rows.{Row}
 use Rattle.definition.specs.State.{begun, rows, state, trim}
-use Rattle.definition.specs.Text.{lines, text}
+use Rattle.definition.specs.Text.{lines, part, text}
 use Rattle.definition.proofs.Terminator.{Whole}
 use Rattle.definition.proofs.Uncut.{Uncut}
 use Rattle.session.specs.declared.Input.{Input}
 use Rattle.session.specs.declared.Input.the-variants.{Open, Ended, QuitFound}
 use Rattle.session.specs.declared.Session.{Session}
 use Rattle.session.specs.Calls.{replacedIn}
-use Rattle.session.specs.Held.{part, shown, unanswered}
+use Rattle.session.specs.Held.{shown, unanswered}
 use Rattle.session.specs.Promises.{Fitted}
 use Rattle.session.specs.Sound.{sound, takenBytes}
 use Rattle.session.proofs.Agree.{Agree, agrees-of}

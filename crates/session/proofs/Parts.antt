@@ -6,10 +6,11 @@ use native.Mathlib.Omega.{arith}
 use lib.ListN.{length, take, drop, length-append, length-take, length-drop, take-append-drop}
 use lib.Seq.{drop-drop, take-add, take-nil, drop-at}
 use Rattle.definition.specs.Definition.{bytesOf, lastOf, keptLines}
-use Rattle.definition.specs.Text.{lines}
-use Rattle.definition.proofs.Terminator.{lines-whole}
+use Rattle.definition.specs.Text.{lines, part}
+use Rattle.definition.proofs.Lists.{flatten-append}
+use Rattle.definition.proofs.Terminator.{flatten-last}
 use Rattle.session.specs.declared.Session.{Session}
-use Rattle.session.specs.Held.{part, backFrom, keptBytes, keptFrom, sinceLines}
+use Rattle.session.specs.Held.{backFrom, keptBytes, keptFrom, sinceLines}
 
 pub part-length : (a e : ℕ) (w : List ℕ) → a ≤ e → e ≤ length w → length (part a e w) ≡ e - a
 part-length a e w h k = omega (arith, length-take (e - a) (drop a w), length-drop a w)
@@ -42,27 +43,6 @@ pub part-drop : (a e n : ℕ) (w : List ℕ) → drop n (part a e w) ≡ part (a
 part-drop a e n w =
     let k : e - a - n ≡ e - (a + n) = omega arith in
     drop-take n (e - a) (drop a w) ∙ rw (drop-drop n a w, k)
-
--- # Lines in bytes
-
-pub flatten-append : (xs ys : List (List ℕ)) → flatten (xs ++ ys) ≡ flatten xs ++ flatten ys
-unfolding flatten
-flatten-append [] ys = refl
-flatten-append (x ∷ xs) ys = rw (flatten-append xs ys) (sym (append-assoc x (flatten xs) (flatten ys)))
-
--- the bytes of the last n of the lines of some bytes are the end of those bytes
-pub flatten-last : (n t : ℕ) (xs : List ℕ)
-    → (length (flatten (lastOf n (lines t xs))) ≤ length xs)
-    × (drop (length xs - length (flatten (lastOf n (lines t xs)))) xs ≡ flatten (lastOf n (lines t xs)))
-unfolding lastOf
-flatten-last n t xs =
-    let ls = lines t xs in
-    let j = length ls - n in
-    let front = flatten (take j ls) in
-    let back = flatten (drop j ls) in
-    let whole : front ++ back ≡ xs = sym (flatten-append (take j ls) (drop j ls)) ∙ ap flatten (take-append-drop j ls) ∙ lines-whole t xs in
-    let size : length front + length back ≡ length xs = sym (length-append front back) ∙ ap length whole in
-    (omega arith, ap (λ ys. drop (length xs - length back) ys) (sym whole) ∙ drop-at front back (length xs - length back) (omega arith))
 
 -- # The kept part
 

@@ -13,10 +13,10 @@ use Rattle.definition.specs.declared.Settings.{Settings}
 use Rattle.definition.specs.Definition.{goneLines}
 use Rattle.definition.specs.Rows.{Row}
 use Rattle.definition.specs.State.{State, begun, rows, state}
-use Rattle.definition.specs.Text.{firstPlace, lines, text}
+use Rattle.definition.specs.Text.{firstLength, firstPlace, lines, text}
 use Rattle.definition.proofs.Kept.{state-append, state-stopped}
 use Rattle.definition.proofs.Same.{same-lines}
-use Rattle.definition.proofs.Terminator.{first-append-none, firstLength, lines-head}
+use Rattle.definition.proofs.Terminator.{first-append-none, lines-head}
 use Rattle.session.specs.declared.Session.{Session}
 use Rattle.session.specs.Calls.{idle, offered}
 use Rattle.session.specs.Held.{heldBytes, isOn, isOpen, keptBytes, lineBytes, unanswered, waits}

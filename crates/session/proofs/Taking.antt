@@ -15,14 +15,14 @@ use Rattle.definition.specs.declared.Place.the-variants.{Nowhere, At}
 use Rattle.definition.specs.Definition.{lastOf, quitMet, keptLines}
 use Rattle.definition.specs.Rows.{Row}
 use Rattle.definition.specs.State.{trim}
-use Rattle.definition.specs.Text.{firstPlace, lines, text, textUnder, upTo}
+use Rattle.definition.specs.Text.{firstPlace, lines, part, text, textUnder, upTo}
 use Rattle.definition.proofs.Lists.{lastOf-lastOf}
 use Rattle.definition.proofs.Terminator.{first-append, first-append-none, first-le, lines-drop, Whole, whole-drop}
 use Rattle.definition.proofs.Uncut.{Uncut, length-replaced, text-append, uncut-append, upTo-drop, upTo-take}
 use Rattle.session.specs.declared.Input.the-variants.{Open, QuitFound}
 use Rattle.session.specs.declared.Session.{Session}
 use Rattle.session.specs.Calls.{beforeQuit, firstOf, quitPlace, replacedIn, stored, storedWindow}
-use Rattle.session.specs.Held.{backFrom, keptFrom, part, shown, sinceLines, unanswered}
+use Rattle.session.specs.Held.{backFrom, keptFrom, shown, sinceLines, unanswered}
 use Rattle.session.proofs.Agree.{Agree}
 use Rattle.session.proofs.Invariant.{Inv, InputNow, taken-is, unanswered-length}
 use Rattle.session.proofs.Keeps.{Room, agree-stored}

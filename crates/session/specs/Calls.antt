@@ -17,7 +17,7 @@ use Rattle.definition.specs.Bounds.{allowed, maxInput, maxWindow}
 use Rattle.definition.specs.Definition.{Fate, match, after, other, norow, causeOf, endWith, goingNext, lastOf}
 use Rattle.definition.specs.Rows.{Row, flat, rowSize}
 use Rattle.definition.specs.State.{State, fateOf, stepRows, stepState}
-use Rattle.definition.specs.Text.{firstPlace, text}
+use Rattle.definition.specs.Text.{firstPlace, part, text}
 use Rattle.session.specs.declared.Answered.{Answered}
 use Rattle.session.specs.declared.Answering.{Answering}
 use Rattle.session.specs.declared.Answering.the-variants.{AnswerRefused, Give}
@@ -32,7 +32,7 @@ use Rattle.session.specs.declared.Session.{Session}
 use Rattle.session.specs.declared.Told.{Told}
 use Rattle.session.specs.declared.Waiting.{Waiting}
 use Rattle.session.specs.declared.Waiting.the-variants.{LineWaits, NoneWaits, WaitingRefused}
-use Rattle.session.specs.Held.{part, isOn, isOpen, lineBytes, waits, lineLength, heldBytes, keptFrom, shown}
+use Rattle.session.specs.Held.{isOn, isOpen, lineBytes, waits, lineLength, heldBytes, keptFrom, shown}
 use Rattle.session.specs.Sound.{agrees, closed, sound, takenBytes}
 
 -- # Opening

@@ -1,23 +1,19 @@
 -- What a window shows of a session: the bytes held, whether a line waits, the kept part, and the definition's state.
 -- All is read from the window as it stands (docs/DECISIONS.md 9 and 10).
-use Prim.Native.Nat.{ℕ, _+_, _-_, min}
+use Prim.Native.Nat.{ℕ, _+_, _-_}
 use mathlib.Core.Bool.{Bool, true, false, not, _&&_, _||_}
 use mathlib.Core.List.{List, [], _∷_, flatten}
 use lib.Dec.{ltb}
-use lib.ListN.{length, take, drop}
+use lib.ListN.{length}
 use Rattle.definition.specs.declared.Going.{Going}
 use Rattle.definition.specs.declared.Going.the-variants.{On, LimitMet, NonmatchMet}
 use Rattle.definition.specs.Definition.{lastOf, keptLines}
 use Rattle.definition.specs.Rows.{Line}
 use Rattle.definition.specs.State.{State}
-use Rattle.definition.specs.Text.{firstPlace, lines}
+use Rattle.definition.specs.Text.{firstLength, firstPlace, lines, part}
 use Rattle.session.specs.declared.Input.{Input}
 use Rattle.session.specs.declared.Input.the-variants.{Open, Ended, QuitFound}
 use Rattle.session.specs.declared.Session.{Session}
-
--- the bytes of a window from one place up to another
-abbrev pub part : ℕ → ℕ → List ℕ → List ℕ
-part from to window = take (to - from) (drop from window)
 
 abbrev pub isOn : Going → Bool
 isOn On = true
@@ -48,7 +44,7 @@ waits s w =
 
 -- its length with terminator
 unfoldable pub lineLength : Session → List ℕ → ℕ
-lineLength s w = min (lineBytes s w + 1) (length (unanswered s w))
+lineLength s w = firstLength (s .settings .terminator) (unanswered s w)
 
 -- # The lines since the last line with a row, and the kept part
 

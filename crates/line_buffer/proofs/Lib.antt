@@ -1,0 +1,2 @@
+-- What is proved of the rolling buffer.
+pub mod Laws

@@ -1,0 +1,29 @@
+use borrow.Author.Needs.{needs}
+use Rattle.line_buffer.proofs.first_place.Statement.{statement}
+use Rattle.line_buffer.proofs.first_place.Tie as tie
+use Rattle.line_buffer.proofs.first_place.Reads as reads
+use Rattle.line_buffer.proofs.first_place.Lts as lts
+use Rattle.lines.proofs.find.Reads as find-reads
+
+-- src/lib.rt:68:11
+find-requires : tie.Need-find-requires
+find-requires c κs = search needs
+
+-- src/lib.rt:69:19
+enum-known-i : tie.Need-enum-known-i
+enum-known-i c = search needs
+
+-- src/lib.rt:70:27
+enum-told : tie.Need-enum-told
+enum-told c = search needs
+
+-- src/lib.rt:65:1
+returns : tie.Need-returns
+returns c = ?
+
+-- src/lib.rt:65:1
+returns-2 : tie.Need-returns-2
+returns-2 c = ?
+
+pub first-place-spec : {M : Type 1} → statement M
+first-place-spec = tie.close (tie.spec find-requires enum-known-i enum-told returns returns-2)

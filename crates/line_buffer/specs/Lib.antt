@@ -1,0 +1,2 @@
+-- What the rolling buffer does to a window, on lists.
+pub mod Buffer

@@ -1,0 +1,2 @@
+-- What is proved of the line rules.
+pub mod Laws

@@ -1,0 +1,101 @@
+-- The lines counted and those from the place on are all the lines.
+use Prim.Native.Nat.{_+_, _-_, _≤_, _<_}
+use mathlib.Core.Path.{_≡_, sym, ap}
+use native.Mathlib.Omega.{arith}
+use lib.ListN.{length, drop, drop-of-length-le, length-drop}
+use lib.Seq.{take-all}
+use borrow.Author.Needs.{needs}
+use Rattle.definition.specs.Text.{firstLength, lines}
+use Rattle.lines.proofs.Laws.{count-step}
+use Rattle.lines.proofs.count.Statement.{statement}
+use Rattle.lines.proofs.count.Tie as tie
+use Rattle.lines.proofs.count.Reads as reads
+use Rattle.lines.proofs.count.Lts as lts
+use Rattle.lines.proofs.step.Reads as step-reads
+
+abbrev Inv-loop : tie.InvT-loop
+Inv-loop s terminator n₀ i₀ n i = (i ≤ length s) × (n ≤ i) × (length (lines terminator s) ≡ n + length (lines terminator (drop i s)))
+
+abbrev μ-loop : tie.MeasureT-loop
+μ-loop s terminator n₀ i₀ n i = length s - i
+
+-- src/lib.rt:74:5
+loop-holds : tie.Need-loop-holds Inv-loop μ-loop
+loop-holds c = omega arith
+
+-- src/lib.rt:75:19
+sub-step : tie.Need-sub-step Inv-loop μ-loop
+sub-step c = omega arith
+
+-- src/lib.rt:75:19
+part-step-start : tie.Need-part-step-start Inv-loop μ-loop
+part-step-start c = search needs
+
+-- src/lib.rt:75:19
+part-step-end : tie.Need-part-step-end Inv-loop μ-loop
+part-step-end c = search needs
+
+-- src/lib.rt:75:14
+step-requires : tie.Need-step-requires Inv-loop μ-loop
+step-requires c κs = search needs
+
+-- the line at the place, where a line is left
+stepped : (c : tie.After-step Inv-loop μ-loop)
+    → let l = c .before .before .before in let a = l .before .before .args in
+    (c .step .result ≡ firstLength (a .terminator) (drop (l .loop .i) (a .s .now)))
+    × (0 < c .step .result)
+    × (l .loop .i + c .step .result ≤ length (a .s .now))
+stepped c =
+    let l = c .before .before .before in
+    let a = l .before .before .args in
+    let rest = drop (l .loop .i) (a .s .now) in
+    let size = length-drop (l .loop .i) (a .s .now) in
+    let first : c .step .result ≡ firstLength (a .terminator) rest =
+    rw (take-all (length (a .s .now) - l .loop .i) rest (omega arith)) at (c .step .ensures)
+    in
+    (first, omega (arith, first), omega (arith, first))
+
+-- src/lib.rt:75:9
+add-i : tie.Need-add-i Inv-loop μ-loop
+add-i c = omega (arith, stepped c, c .before .before .before .before .before .good)
+
+-- src/lib.rt:76:9
+add-n : tie.Need-add-n Inv-loop μ-loop
+add-n c = omega (arith, stepped c, c .before .before .before .before .before .good)
+
+-- src/lib.rt:74:5
+loop-less : tie.Need-loop-less Inv-loop μ-loop
+loop-less c = omega (arith, stepped c)
+
+-- src/lib.rt:74:5
+loop-again : tie.Need-loop-again Inv-loop μ-loop
+loop-again c =
+    let l = c .before .before .before in
+    let a = l .before .before .args in
+    let more = rw (sym (stepped c .0)) at (count-step (a .terminator) (l .loop .i) (a .s .now) (omega arith)) in
+    omega (arith, stepped c, more)
+
+-- src/lib.rt:69:1
+returns : tie.Need-returns Inv-loop μ-loop
+unfolding lines
+returns c =
+    let l = c .before in
+    let a = l .before .before .args in
+    omega (arith, ap (λ xs. length (lines (a .terminator) xs)) (drop-of-length-le (a .s .now) {i = l .loop .i} (omega arith)))
+
+pub count-spec : {M : Type 1} → statement M
+count-spec =
+    tie.close
+    (tie.spec
+    Inv-loop
+    μ-loop
+    loop-holds
+    sub-step
+    part-step-start
+    part-step-end
+    step-requires
+    add-i
+    add-n
+    loop-less
+    loop-again
+    returns)

@@ -1,0 +1,2 @@
+-- What the line rules mean, on lists.
+pub mod Lines
