@@ -4,7 +4,9 @@ use definition::Binary;
 use lines::Found;
 ghost use mathlib.Core.Path.{_≡_};
 ghost use Prim.Native.Nat.{_+_, _≤_};
+ghost use mathlib.Core.Bool.{cond};
 ghost use mathlib.Core.List.{_++_};
+ghost use lib.Dec.{eqb};
 ghost use lib.ListN.{length, drop};
 ghost use Rattle.definition.specs.Text.{firstPlace, replaced};
 ghost use Rattle.line_buffer.specs.Buffer.{converted, rolled, takenIn};
@@ -55,10 +57,15 @@ fn replace_bytes(tail: &mut [u8], piece: &[u8], byte: u8, by: u8)
 {
     let mut i = 0;
     while i < piece.len() {
-        let x = piece[i];
-        tail[i] = if x == byte { by } else { x };
+        tail[i] = replacement(piece[i], byte, by);
         i += 1;
     }
+}
+
+fn replacement(x: u8, byte: u8, by: u8) -> u8
+    ensures { λ r. ⌜ r ≡ cond (eqb x byte) by x ⌝ }
+{
+    if x == byte { by } else { x }
 }
 
 // The first place of a byte in a piece; the piece's length where it has none.

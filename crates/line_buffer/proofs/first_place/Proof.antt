@@ -1,3 +1,6 @@
+-- The place found, or the length where there is none.
+use mathlib.Core.Path.{sym, _∙_}
+use Rattle.lines.proofs.Laws.{found-at, found-nothing}
 use borrow.Author.Needs.{needs}
 use Rattle.line_buffer.proofs.first_place.Statement.{statement}
 use Rattle.line_buffer.proofs.first_place.Tie as tie
@@ -19,11 +22,15 @@ enum-told c = search needs
 
 -- src/lib.rt:65:1
 returns : tie.Need-returns
-returns c = ?
+returns c =
+    let a = c .before .before .before .before .before .args in
+    found-at (a .byte) (c .before .i .given .0 .0) (a .piece .now) (sym (c .before .i .given .1) ∙ c .before .before .before .find .ensures) .0
 
 -- src/lib.rt:65:1
 returns-2 : tie.Need-returns-2
-returns-2 c = ?
+returns-2 c =
+    let a = c .before .before .before .before .args in
+    sym (found-nothing (a .byte) (a .piece .now) (sym (c .enum-told .given .1) ∙ c .before .before .find .ensures))
 
 pub first-place-spec : {M : Type 1} → statement M
 first-place-spec = tie.close (tie.spec find-requires enum-known-i enum-told returns returns-2)

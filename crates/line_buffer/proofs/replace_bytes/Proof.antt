@@ -1,45 +1,75 @@
+-- As far as the loop has come, the piece with its bytes replaced stands over the tail.
+use Prim.Native.Nat.{_+_, _-_, _≤_}
+use mathlib.Core.Path.{_≡_, refl, sym, _∙_}
+use native.Mathlib.Omega.{arith}
+use lib.ListN.{length, getD, length-set}
+use lib.Seq.{take-all}
+use borrow.Author.Needs.{needs}
+use Rattle.definition.specs.Text.{replaced}
+use Rattle.definition.proofs.Uncut.{length-replaced}
+use Rattle.line_buffer.proofs.Laws.{getD-replaced, over, over-next}
 use Rattle.line_buffer.proofs.replace_bytes.Statement.{statement}
 use Rattle.line_buffer.proofs.replace_bytes.Tie as tie
 use Rattle.line_buffer.proofs.replace_bytes.Reads as reads
 use Rattle.line_buffer.proofs.replace_bytes.Lts as lts
+use Rattle.line_buffer.proofs.replacement.Reads as replacement-reads
 
 abbrev Inv-loop : tie.InvT-loop
-Inv-loop tail₀ piece byte by i₀ tail i = ?
+Inv-loop tail₀ piece byte by i₀ tail i = (i ≤ length piece) × (length tail ≡ length tail₀) × (tail ≡ over (replaced byte by piece) tail₀ i)
 
 abbrev μ-loop : tie.MeasureT-loop
-μ-loop tail₀ piece byte by i₀ tail i = ?
+μ-loop tail₀ piece byte by i₀ tail i = length piece - i
 
--- src/lib.rt:57:5
+-- src/lib.rt:59:5
 loop-holds : tie.Need-loop-holds Inv-loop μ-loop
-loop-holds c = ?
+loop-holds c = (omega arith, refl, refl)
 
--- src/lib.rt:58:17
-shared-slice-read-x : tie.Need-shared-slice-read-x Inv-loop μ-loop
-shared-slice-read-x c = ?
+-- src/lib.rt:60:31
+shared-slice-read-replacement : tie.Need-shared-slice-read-replacement Inv-loop μ-loop
+shared-slice-read-replacement c = omega arith
 
--- src/lib.rt:59:9
-slice-write-tail : tie.Need-slice-write-tail Inv-loop μ-loop
-slice-write-tail c = ?
+-- src/lib.rt:60:19
+replacement-requires : tie.Need-replacement-requires Inv-loop μ-loop
+replacement-requires c κs = search needs
 
 -- src/lib.rt:60:9
+slice-write-tail : tie.Need-slice-write-tail Inv-loop μ-loop
+slice-write-tail c = omega arith
+
+-- src/lib.rt:61:9
 add-i : tie.Need-add-i Inv-loop μ-loop
-add-i c = ?
+add-i c = omega arith
 
--- src/lib.rt:57:5
+-- src/lib.rt:59:5
 loop-less : tie.Need-loop-less Inv-loop μ-loop
-loop-less c = ?
+loop-less c = omega arith
 
--- src/lib.rt:57:5
+-- src/lib.rt:59:5
 loop-again : tie.Need-loop-again Inv-loop μ-loop
-loop-again c = ?
+loop-again c =
+    let l = c .before .before .before in
+    let a = l .before .before .before .args in
+    let i = l .loop .i in
+    let new = replaced (a .byte) (a .by) (a .piece .now) in
+    let size = length-replaced (a .byte) (a .by) (a .piece .now) in
+    let byte : c .replacement .result ≡ getD new i 0 = c .replacement .ensures ∙ sym (getD-replaced (a .byte) (a .by) i (a .piece .now) (omega arith)) in (
+      omega arith,
+      length-set (l .loop .tail) i (c .replacement .result) ∙ l .loop .inv .1,
+      rw (byte, l .loop .inv .2) (over-next new (a .tail .now) i (omega arith) (omega arith)),
+    )
 
--- src/lib.rt:52:1
+-- src/lib.rt:54:1
 same-length : tie.Need-same-length Inv-loop μ-loop
-same-length c = ?
+same-length c = c .before .loop .inv .1
 
--- src/lib.rt:52:1
+-- src/lib.rt:54:1
 returns : tie.Need-returns Inv-loop μ-loop
-returns c = ?
+returns c =
+    let l = c .before in
+    let a = l .before .before .before .args in
+    let whole = length-replaced (a .byte) (a .by) (a .piece .now) in
+    let e : l .loop .i ≡ length (a .piece .now) = omega arith in
+    rw (e, take-all (length (a .piece .now)) (replaced (a .byte) (a .by) (a .piece .now)) (omega arith)) at (l .loop .inv .2)
 
 pub replace-bytes-spec : {M : Type 1} → statement M
 replace-bytes-spec =
@@ -48,7 +78,8 @@ replace-bytes-spec =
     Inv-loop
     μ-loop
     loop-holds
-    shared-slice-read-x
+    shared-slice-read-replacement
+    replacement-requires
     slice-write-tail
     add-i
     loop-less

@@ -1,53 +1,88 @@
+-- As far as the loop has come, the part stands over the front; what it still reads lies ahead of what it has written.
+use Prim.Native.Nat.{_+_, _-_, _≤_}
+use mathlib.Core.Path.{_≡_, refl, sym, _∙_}
+use native.Mathlib.Omega.{arith}
+use lib.ListN.{length, drop, getD, length-drop, length-set}
+use lib.Seq.{getD-drop}
+use Rattle.line_buffer.specs.Buffer.{rolled}
+use Rattle.line_buffer.proofs.Laws.{over, over-next, over-read, roll-none}
 use Rattle.line_buffer.proofs.roll.Statement.{statement}
 use Rattle.line_buffer.proofs.roll.Tie as tie
 use Rattle.line_buffer.proofs.roll.Reads as reads
 use Rattle.line_buffer.proofs.roll.Lts as lts
 
 abbrev Inv-loop : tie.InvT-loop
-Inv-loop window₀ from to i₀ window i = ?
+Inv-loop window₀ from to i₀ window i = (from ≤ i) × (i ≤ to) × (length window ≡ length window₀) × (window ≡ over (drop from window₀) window₀ (i - from))
 
 abbrev μ-loop : tie.MeasureT-loop
-μ-loop window₀ from to i₀ window i = ?
+μ-loop window₀ from to i₀ window i = to - i
 
 -- src/lib.rt:18:9
 returns : tie.Need-returns Inv-loop μ-loop
-returns c = ?
+unfolding rolled
+returns c =
+    let a = c .before .args in
+    let zero : a .from ≡ 0 = c .if1 .taken in
+    sym (rw zero (roll-none (a .to) (a .window .now)))
 
 -- src/lib.rt:21:5
 loop-holds : tie.Need-loop-holds Inv-loop μ-loop
-loop-holds c = ?
+loop-holds c =
+    let a = c .before .args in
+    let zero : a .from - a .from ≡ 0 = omega arith in
+    (omega arith, omega (arith, c .before .pre), refl, rw zero)
 
 -- src/lib.rt:22:28
 slice-read-window : tie.Need-slice-read-window Inv-loop μ-loop
-slice-read-window c = ?
+slice-read-window c = omega arith
 
 -- src/lib.rt:22:16
 sub-window : tie.Need-sub-window Inv-loop μ-loop
-sub-window c = ?
+sub-window c = omega arith
 
 -- src/lib.rt:22:9
 slice-write-window : tie.Need-slice-write-window Inv-loop μ-loop
-slice-write-window c = ?
+slice-write-window c = omega arith
 
 -- src/lib.rt:23:9
 add-i : tie.Need-add-i Inv-loop μ-loop
-add-i c = ?
+add-i c = omega arith
 
 -- src/lib.rt:21:5
 loop-less : tie.Need-loop-less Inv-loop μ-loop
-loop-less c = ?
+loop-less c = omega arith
 
 -- src/lib.rt:21:5
 loop-again : tie.Need-loop-again Inv-loop μ-loop
-loop-again c = ?
+loop-again c =
+    let l = c .before .before in
+    let a = l .before .before .args in
+    let w = a .window .now in
+    let j = l .loop .i - a .from in
+    let next : l .loop .i + 1 - a .from ≡ j + 1 = omega arith in
+    let there : a .from + j ≡ l .loop .i = omega arith in
+    let size = length-drop (a .from) w in
+    let read : getD (l .loop .window) (l .loop .i) 0 ≡ getD (drop (a .from) w) j 0 =
+    rw (l .loop .inv .3) (over-read (drop (a .from) w) w j (l .loop .i) (omega arith) (omega arith) ∙ sym (rw there at (getD-drop (a .from) w j 0)))
+    in (
+      omega arith,
+      omega arith,
+      length-set (l .loop .window) j (getD (l .loop .window) (l .loop .i) 0) ∙ l .loop .inv .2,
+      rw (next, read, l .loop .inv .3) (over-next (drop (a .from) w) w j (omega arith) (omega arith)),
+    )
 
 -- src/lib.rt:13:1
 same-length : tie.Need-same-length Inv-loop μ-loop
-same-length c = ?
+same-length c = c .before .loop .inv .2
 
 -- src/lib.rt:13:1
 returns-2 : tie.Need-returns-2 Inv-loop μ-loop
-returns-2 c = ?
+unfolding rolled
+returns-2 c =
+    let l = c .before in
+    let a = l .before .before .args in
+    let e : l .loop .i ≡ a .to = omega arith in
+    rw e at (l .loop .inv .3)
 
 pub roll-spec : {M : Type 1} → statement M
 roll-spec =
