@@ -8,10 +8,11 @@ use native.Mathlib.Omega.{arith}
 use lib.Dec.{ltb, eqb}
 use lib.ListN.{length, drop}
 use borrow.Author.Tests.{lt-ltb, le-ltb, ne-eqb, eq-eqb}
+use Rattle.definition.specs.declared.Row.{Row}
 use Rattle.definition.specs.declared.Settings.{Settings}
 use Rattle.definition.specs.Bounds.{contextual}
 use Rattle.definition.specs.Definition.{hasRow, rowless, lastOf, lastNumber, between, breakBefore, give}
-use Rattle.definition.specs.Rows.{Line, Row, row, break}
+use Rattle.definition.specs.Rows.{Line, row, break}
 use Rattle.definition.proofs.Lists.{lastOf-append, lastOf-lastOf}
 
 -- # Numbers

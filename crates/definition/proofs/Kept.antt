@@ -8,13 +8,16 @@ use native.Mathlib.Omega.{arith}
 use lib.Dec.{ltb}
 use lib.ListN.{length, length-append, length-map}
 use borrow.Author.Tests.{ltb-false, lt-ltb, le-ltb}
+use Rattle.definition.specs.declared.Row.{Row}
+use Rattle.definition.specs.declared.Fate.{Fate}
+use Rattle.definition.specs.declared.Fate.the-variants.{Match, After, Other, NoRow}
 use Rattle.definition.specs.declared.Going.{Going}
 use Rattle.definition.specs.declared.Going.the-variants.{On, LimitMet, NonmatchMet}
 use Rattle.definition.specs.declared.Settings.{Settings}
 use Rattle.definition.specs.Bounds.{contextual}
-use Rattle.definition.specs.Definition.{Fate, match, after, other, norow, lastOf, keptLines}
+use Rattle.definition.specs.Definition.{lastOf, keptLines}
 use Rattle.definition.specs.Laws.{RowsBegin, KeptEnough, TrimRows, TrimState}
-use Rattle.definition.specs.Rows.{Line, Row, row, break, beforeKind, matchKind}
+use Rattle.definition.specs.Rows.{Line, row, break, beforeKind, matchKind}
 use Rattle.definition.specs.State.{State, nextLine, breaks, rowsFor, stateNext, fateOf, stepRows, stepState, state, rows, trim, keptRows}
 use Rattle.definition.proofs.Lists.{lastOf-trim-append, length-lastOf, lastOf-lastOf}
 
@@ -89,10 +92,10 @@ trim-breaks c s = go (contextual c) refl
 
 trim-rowsFor : (f : Fate) (c : Settings) (s : State) (len : ℕ) → rowsFor f c (trim c s) (nextLine (trim c s) len) ≡ rowsFor f c s (nextLine s len)
 unfolding nextLine trim
-trim-rowsFor match c s len = rw (trim-breaks c s, lastOf-lastOf (c .before) (keptLines c) (s .since) (before≤kept c))
-trim-rowsFor after c s len = refl
-trim-rowsFor other c s len = refl
-trim-rowsFor norow c s len = refl
+trim-rowsFor Match c s len = rw (trim-breaks c s, lastOf-lastOf (c .before) (keptLines c) (s .since) (before≤kept c))
+trim-rowsFor After c s len = refl
+trim-rowsFor Other c s len = refl
+trim-rowsFor NoRow c s len = refl
 
 -- rows and state of one more line are those of the trimmed state
 pub trim-stepRows : (g : Going) (c : Settings) (s : State) (len : ℕ) (answer : Bool) → stepRows g c (trim c s) len answer ≡ stepRows g c s len answer
@@ -103,10 +106,10 @@ trim-stepRows NonmatchMet c s len answer = refl
 
 trim-stateNext : (f : Fate) (c : Settings) (s : State) (len : ℕ) → trim c (stateNext f c (trim c s) len) ≡ trim c (stateNext f c s len)
 unfolding stateNext trim nextLine
-trim-stateNext match c s len = refl
-trim-stateNext after c s len = refl
-trim-stateNext other c s len = refl
-trim-stateNext norow c s len = rw (lastOf-trim-append (keptLines c) (s .since) (nextLine s len ∷ []))
+trim-stateNext Match c s len = refl
+trim-stateNext After c s len = refl
+trim-stateNext Other c s len = refl
+trim-stateNext NoRow c s len = rw (lastOf-trim-append (keptLines c) (s .since) (nextLine s len ∷ []))
 
 trim-trim : (c : Settings) (s : State) → trim c (trim c s) ≡ trim c s
 unfolding trim
@@ -162,7 +165,7 @@ breaks-most false = omega arith
 
 rowsFor-most : (f : Fate) (c : Settings) (s : State) (l : Line) → length (rowsFor f c s l) ≤ c .before + 2
 unfolding breaks
-rowsFor-most match c s l =
+rowsFor-most Match c s l =
     let befores = map (row beforeKind) (lastOf (c .before) (s .since)) in
     let all = contextual c && s .given && ltb (c .before) (length (s .since)) in
     omega (
@@ -173,9 +176,9 @@ rowsFor-most match c s l =
       length-map (lastOf (c .before) (s .since)) (row beforeKind),
       length-lastOf (c .before) (s .since),
     )
-rowsFor-most after c s l = omega arith
-rowsFor-most other c s l = omega arith
-rowsFor-most norow c s l = omega arith
+rowsFor-most After c s l = omega arith
+rowsFor-most Other c s l = omega arith
+rowsFor-most NoRow c s l = omega arith
 
 pub stepRows-most : (g : Going) (c : Settings) (s : State) (len : ℕ) (answer : Bool) → length (stepRows g c s len answer) ≤ c .before + 2
 stepRows-most On c s len answer = rowsFor-most (fateOf c s answer) c s (nextLine s len)
@@ -185,10 +188,10 @@ stepRows-most NonmatchMet c s len answer = omega arith
 -- the lines since the last row are among the lines gone through
 since-next : (f : Fate) (c : Settings) (s : State) (len : ℕ) → length (s .since) ≤ s .lines → length (stateNext f c s len .since) ≤ s .lines + 1
 unfolding stateNext
-since-next match c s len h = omega arith
-since-next after c s len h = omega arith
-since-next other c s len h = omega arith
-since-next norow c s len h = omega (arith, length-append (s .since) (nextLine s len ∷ []))
+since-next Match c s len h = omega arith
+since-next After c s len h = omega arith
+since-next Other c s len h = omega arith
+since-next NoRow c s len h = omega (arith, length-append (s .since) (nextLine s len ∷ []))
 
 since-step : (g : Going) (c : Settings) (s : State) (len : ℕ) (answer : Bool) → length (s .since) ≤ s .lines
     → length (stepState g c s len answer .since) ≤ stepState g c s len answer .lines

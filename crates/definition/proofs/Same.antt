@@ -10,13 +10,16 @@ use native.Mathlib.Omega.{arith}
 use lib.Dec.{ltb}
 use lib.ListN.{length, take, length-append, length-take, take-append-drop}
 use borrow.Author.Tests.{lt-ltb, le-ltb}
+use Rattle.definition.specs.declared.Row.{Row}
+use Rattle.definition.specs.declared.Fate.{Fate}
+use Rattle.definition.specs.declared.Fate.the-variants.{Match, After, Other, NoRow}
 use Rattle.definition.specs.declared.Going.{Going}
 use Rattle.definition.specs.declared.Going.the-variants.{On, LimitMet, NonmatchMet}
 use Rattle.definition.specs.declared.Settings.{Settings}
 use Rattle.definition.specs.Bounds.{contextual}
-use Rattle.definition.specs.Definition.{Fate, match, after, other, norow, fate, selected, afterLeftNext, matchesNext, isMatch, goingNext, lastOf, rowless, between, lastNumber, give, ownRows, Gone, start, goneNext, goThrough, walk, goneLines, gone, keptLines, sinceLast, keptPart, bytesOf, endRecord, rowsOf, endOf}
+use Rattle.definition.specs.Definition.{fate, selected, afterLeftNext, matchesNext, isMatch, goingNext, lastOf, rowless, between, lastNumber, give, ownRows, Gone, start, goneNext, goThrough, walk, goneLines, gone, keptLines, sinceLast, keptPart, bytesOf, endRecord, rowsOf, endOf}
 use Rattle.definition.specs.Laws.{SameLines, SameRows, SameEnd, EmptyText, finalState}
-use Rattle.definition.specs.Rows.{Line, Row, row, break, placed, matchKind, beforeKind, afterKind, otherKind}
+use Rattle.definition.specs.Rows.{Line, row, break, placed, matchKind, beforeKind, afterKind, otherKind}
 use Rattle.definition.specs.State.{State, begun, nextLine, breaks, rowsFor, stateNext, givenNext, sinceNext, fateOf, stepRows, stepState, state, rows, trim}
 use Rattle.definition.specs.Text.{lines, text}
 use Rattle.definition.proofs.Fates.{FateCase, selects, owes, passes, skips, fate-case}
@@ -101,7 +104,7 @@ module _ (rs : List Row) (done since : List Line) (numbers : Numbered 1 (done ++
 
   -- the rows that a match gives
   match-rows : (c : Settings) (l : Line) → l .number ≡ 1 + length (done ++ since) → lastNumber 0 rs ≡ length done → Covered rs (lastOf (c .before) done)
-      → give c (done ++ since) rs (ownRows match c (done ++ since) rs l)
+      → give c (done ++ since) rs (ownRows Match c (done ++ since) rs l)
       ≡ rs ++ (gap c rs (take (length since - c .before) since) ++ (map (row beforeKind) (lastOf (c .before) since) ++ (row matchKind l ∷ [])))
   unfolding lastOf
   match-rows c l number last covered =
@@ -177,10 +180,10 @@ module _ (c : Settings) (g : Gone) (s : State) (a : Agree c g s) (len : ℕ) whe
 
   -- why a line that gets no match gets what it gets
   abbrev Right : Fate → Type 0
-  Right match = Unit {0}
-  Right after = s .since ≡ []
-  Right other = s .since ≡ []
-  Right norow = (s .afterLeft ≡ 0) × (c .passthru ≡ false)
+  Right Match = Unit {0}
+  Right After = s .since ≡ []
+  Right Other = s .since ≡ []
+  Right NoRow = (s .afterLeft ≡ 0) × (c .passthru ≡ false)
 
   abbrev Step : Fate → Type 0
   Step f =
@@ -220,7 +223,7 @@ module _ (c : Settings) (g : Gone) (s : State) (a : Agree c g s) (len : ℕ) whe
       in
       rw (more, a .given-is)
 
-  match-own : goneNext match c g (nextLine s len) .rows
+  match-own : goneNext Match c g (nextLine s len) .rows
       ≡ g .rows ++ (gap c (g .rows) early ++ (map (row beforeKind) (lastOf (c .before) (s .since)) ++ (row matchKind (nextLine s len) ∷ [])))
   unfolding early
   match-own =
@@ -238,13 +241,13 @@ module _ (c : Settings) (g : Gone) (s : State) (a : Agree c g s) (len : ℕ) whe
       at-most-rows beforeKind (length (g .seen)) (1 + length (a .done) + length front) late back
       (omega (arith, ap length (a .seen-is), length-append (a .done) (s .since), length-append front late, ap length split))
 
-  step-match : Step match
+  step-match : Step Match
   step-match =
       let l = nextLine s len in
       let gaps = gap c (g .rows) early in
       let befores = map (row beforeKind) (lastOf (c .before) (s .since)) in
       let rs = g .rows ++ (gaps ++ befores) in
-      let own : goneNext match c g l .rows ≡ rs ++ (row matchKind l ∷ []) = match-own ∙ simp append-assoc in
+      let own : goneNext Match c g l .rows ≡ rs ++ (row matchKind l ∷ []) = match-own ∙ simp append-assoc in
       let most : AtMost (length (g .seen)) rs =
       at-most-join (length (g .seen)) (g .rows) (gaps ++ befores)
       (at-most-more (length (a .done)) (length (g .seen)) (g .rows) (omega (arith, ap length (a .seen-is), length-append (a .done) (s .since))) (a .at-most))
@@ -258,9 +261,9 @@ module _ (c : Settings) (g : Gone) (s : State) (a : Agree c g s) (len : ℕ) whe
       (λ x e. keeps-left rs (row matchKind l ∷ []) x (keeps-left (g .rows) (gaps ++ befores) x e))
       (λ x e. keeps-left rs (row matchKind l ∷ []) x (keeps-right (g .rows) (gaps ++ befores) x (keeps-right gaps befores x (rw late-are at e))))
       in
-      (match-own ∙ rw gap-is, agree-given match matchKind rs refl refl own most cover)
+      (match-own ∙ rw gap-is, agree-given Match matchKind rs refl refl own most cover)
 
-  step-none : Right norow → Step norow
+  step-none : Right NoRow → Step NoRow
   unfolding give stateNext nextLine
   step-none h =
       let l = nextLine s len in (
@@ -279,23 +282,23 @@ module _ (c : Settings) (g : Gone) (s : State) (a : Agree c g s) (len : ℕ) whe
           lines-is = lines-next;
           matches-is = a .matches-is;
           left-is = a .left-is;
-          going-is = going-next norow;
+          going-is = going-next NoRow;
         },
       )
 
   step : (f : Fate) → Right f → Step f
-  step match h = step-match
-  step after h = step-next after afterKind h refl refl refl refl
-  step other h = step-next other otherKind h refl refl refl refl
-  step norow h = step-none h
+  step Match h = step-match
+  step After h = step-next After afterKind h refl refl refl refl
+  step Other h = step-next Other otherKind h refl refl refl refl
+  step NoRow h = step-none h
 
 -- # All lines
 
 right : (c : Settings) (g : Gone) (s : State) (a : Agree c g s) (len : ℕ) (sel : Bool) (f : Fate) → FateCase c sel (s .afterLeft) f → Right c g s a len f
-right c g s a len sel match (selects e) = tt
-right c g s a len sel after (owes e h) = a .left-none h
-right c g s a len sel other (passes e h p) = a .pass-none p
-right c g s a len sel norow (skips e h p) = (h, p)
+right c g s a len sel Match (selects e) = tt
+right c g s a len sel After (owes e h) = a .left-none h
+right c g s a len sel Other (passes e h p) = a .pass-none p
+right c g s a len sel NoRow (skips e h p) = (h, p)
 
 -- after a stop the walk goes through no line
 goThrough-stopped : (k : Going) (c : Settings) (g : Gone) (l : Line) (answer : Bool) → (k ≡ On → ⊥) → goThrough k c g l answer ≡ g

@@ -5,6 +5,9 @@ use mathlib.Core.Bool.{Bool, true, false, cond, not, _&&_, _||_, xor}
 use mathlib.Core.List.{List, [], _∷_, _++_, map}
 use lib.ListN.{length, drop}
 use lib.Dec.{ltb, leb, eqb}
+use Rattle.definition.specs.declared.Row.{Row}
+use Rattle.definition.specs.declared.Fate.{Fate}
+use Rattle.definition.specs.declared.Fate.the-variants.{Match, After, Other, NoRow}
 use Rattle.definition.specs.declared.Binary.{Binary}
 use Rattle.definition.specs.declared.Binary.the-variants.{Ignore, Quit, Convert}
 use Rattle.definition.specs.declared.End.{End}
@@ -16,7 +19,7 @@ use Rattle.definition.specs.declared.Place.{Place}
 use Rattle.definition.specs.declared.Place.the-variants.{Nowhere, At}
 use Rattle.definition.specs.declared.Settings.{Settings}
 use Rattle.definition.specs.Bounds.{contextual}
-use Rattle.definition.specs.Rows.{Line, Row, row, break, placed, matchKind, beforeKind, afterKind, otherKind}
+use Rattle.definition.specs.Rows.{Line, row, break, placed, matchKind, beforeKind, afterKind, otherKind}
 use Rattle.definition.specs.Text.{firstPlace, lines, text}
 
 -- # Which lines get which row
@@ -29,32 +32,28 @@ limitReached (Most n) matches = leb n matches
 unfoldable pub selected : Settings → ℕ → Bool → Bool
 selected c matches answer = not (limitReached (c .limit) matches) && xor answer (c .invert)
 
--- what becomes of a line
-pub data Fate : Type 0 where
-  match after other norow : Fate
-
 -- "Selected: .. the match. .. Else if after-left is above 0: after-context .. Else if pass-through: other context. Else no row."
 unfoldable pub fate : Settings → Bool → ℕ → Fate
-fate c isSelected afterLeft = cond isSelected match (cond (ltb 0 afterLeft) after (cond (c .passthru) other norow))
+fate c isSelected afterLeft = cond isSelected Match (cond (ltb 0 afterLeft) After (cond (c .passthru) Other NoRow))
 
 -- "After-left becomes A. .. after-left falls by 1."
 abbrev pub afterLeftNext : Fate → Settings → ℕ → ℕ
-afterLeftNext match c left = c .after
-afterLeftNext after c left = left - 1
-afterLeftNext other c left = left
-afterLeftNext norow c left = left
+afterLeftNext Match c left = c .after
+afterLeftNext After c left = left - 1
+afterLeftNext Other c left = left
+afterLeftNext NoRow c left = left
 
 abbrev pub matchesNext : Fate → ℕ → ℕ
-matchesNext match m = m + 1
-matchesNext after m = m
-matchesNext other m = m
-matchesNext norow m = m
+matchesNext Match m = m + 1
+matchesNext After m = m
+matchesNext Other m = m
+matchesNext NoRow m = m
 
 abbrev pub isMatch : Fate → Bool
-isMatch match = true
-isMatch after = false
-isMatch other = false
-isMatch norow = false
+isMatch Match = true
+isMatch After = false
+isMatch Other = false
+isMatch NoRow = false
 
 -- whether a line has a row among those given
 unfoldable pub hasRow : List Row → Line → Bool
@@ -72,10 +71,10 @@ lastOf n xs = drop (length xs - n) xs
 
 -- "those of the last B lines before it that have no row yet come as before-context, then the match"
 abbrev pub ownRows : Fate → Settings → List Line → List Row → Line → List Row
-ownRows match c seen rows l = map (row beforeKind) (rowless rows (lastOf (c .before) seen)) ++ (row matchKind l ∷ [])
-ownRows after c seen rows l = row afterKind l ∷ []
-ownRows other c seen rows l = row otherKind l ∷ []
-ownRows norow c seen rows l = []
+ownRows Match c seen rows l = map (row beforeKind) (rowless rows (lastOf (c .before) seen)) ++ (row matchKind l ∷ [])
+ownRows After c seen rows l = row afterKind l ∷ []
+ownRows Other c seen rows l = row otherKind l ∷ []
+ownRows NoRow c seen rows l = []
 
 -- # Breaks
 

@@ -5,6 +5,7 @@ use mathlib.Core.Path.{_≡_}
 use mathlib.Core.Bool.{Bool, true, false, _||_}
 use mathlib.Core.List.{List, [], _∷_, map}
 use lib.Dec.{eqb}
+use Rattle.definition.specs.declared.Row.{Row}
 use Rattle.definition.specs.declared.Binary.{Binary}
 use Rattle.definition.specs.declared.Binary.the-variants.{Ignore, Quit, Convert}
 use Rattle.definition.specs.declared.End.{End}
@@ -12,7 +13,6 @@ use Rattle.definition.specs.declared.Limit.{Limit}
 use Rattle.definition.specs.declared.Limit.the-variants.{Unlimited, Most}
 use Rattle.definition.specs.declared.Settings.{Settings}
 use Rattle.definition.specs.Definition.{rowsOf, endOf}
-use Rattle.definition.specs.Rows.{Row}
 use Rattle.definition.specs.State.{begun, keptRows}
 use Rattle.definition.specs.Text.{handed, lines, text}
 

@@ -2,14 +2,9 @@
 use Prim.Native.Nat.{ℕ, _+_}
 use mathlib.Core.List.{List, [], _∷_}
 use lib.ListN as ListN
+use Rattle.definition.specs.declared.Row.{Row}
 
--- "kind (1 match, 2 before, 3 after, 4 other, 5 break), offset, length with terminator, line number from 1"
-pub record Row : Type 0 where
-  pub kind : ℕ
-  pub offset : ℕ
-  pub length : ℕ
-  pub number : ℕ
-
+-- "kind (1 match, 2 before, 3 after, 4 other, 5 break), offset, length with terminator, line number from 1": the struct `Row`
 abbrev pub matchKind : ℕ
 matchKind = 1
 

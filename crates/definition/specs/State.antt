@@ -5,12 +5,15 @@ use mathlib.Core.Bool.{Bool, true, false, cond, not, _&&_}
 use mathlib.Core.List.{List, [], _∷_, _++_, map}
 use lib.ListN.{length}
 use lib.Dec.{ltb}
+use Rattle.definition.specs.declared.Row.{Row}
+use Rattle.definition.specs.declared.Fate.{Fate}
+use Rattle.definition.specs.declared.Fate.the-variants.{Match, After, Other, NoRow}
 use Rattle.definition.specs.declared.Going.{Going}
 use Rattle.definition.specs.declared.Going.the-variants.{On, LimitMet, NonmatchMet}
 use Rattle.definition.specs.declared.Settings.{Settings}
 use Rattle.definition.specs.Bounds.{contextual}
-use Rattle.definition.specs.Definition.{Fate, match, after, other, norow, fate, selected, afterLeftNext, matchesNext, isMatch, goingNext, keptLines, lastOf}
-use Rattle.definition.specs.Rows.{Line, Row, row, break, matchKind, beforeKind, afterKind, otherKind}
+use Rattle.definition.specs.Definition.{fate, selected, afterLeftNext, matchesNext, isMatch, goingNext, keptLines, lastOf}
+use Rattle.definition.specs.Rows.{Line, row, break, matchKind, beforeKind, afterKind, otherKind}
 
 pub record State : Type 0 where
   -- bytes and lines gone through, and matches
@@ -45,22 +48,22 @@ unfoldable pub breaks : Settings → State → List Row
 breaks c s = cond (contextual c && s .given && ltb (c .before) (length (s .since))) (break ∷ []) []
 
 abbrev pub rowsFor : Fate → Settings → State → Line → List Row
-rowsFor match c s l = breaks c s ++ (map (row beforeKind) (lastOf (c .before) (s .since)) ++ (row matchKind l ∷ []))
-rowsFor after c s l = row afterKind l ∷ []
-rowsFor other c s l = row otherKind l ∷ []
-rowsFor norow c s l = []
+rowsFor Match c s l = breaks c s ++ (map (row beforeKind) (lastOf (c .before) (s .since)) ++ (row matchKind l ∷ []))
+rowsFor After c s l = row afterKind l ∷ []
+rowsFor Other c s l = row otherKind l ∷ []
+rowsFor NoRow c s l = []
 
 abbrev pub givenNext : Fate → Bool → Bool
-givenNext match given = true
-givenNext after given = true
-givenNext other given = true
-givenNext norow given = given
+givenNext Match given = true
+givenNext After given = true
+givenNext Other given = true
+givenNext NoRow given = given
 
 abbrev pub sinceNext : Fate → List Line → Line → List Line
-sinceNext match since l = []
-sinceNext after since l = []
-sinceNext other since l = []
-sinceNext norow since l = since ++ (l ∷ [])
+sinceNext Match since l = []
+sinceNext After since l = []
+sinceNext Other since l = []
+sinceNext NoRow since l = since ++ (l ∷ [])
 
 unfoldable pub stateNext : Fate → Settings → State → ℕ → State
 stateNext f c s len =

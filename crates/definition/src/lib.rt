@@ -21,6 +21,14 @@ pub enum Going {
     NonmatchMet,
 }
 
+// What becomes of a line that is gone through.
+pub enum Fate {
+    Match,
+    After,
+    Other,
+    NoRow,
+}
+
 pub struct Settings {
     // lines of context wanted before and after a match
     pub before: usize,
@@ -40,6 +48,15 @@ pub struct Settings {
 pub enum Place {
     Nowhere,
     At(u64),
+}
+
+// A row: kind 1 match, 2 before, 3 after, 4 other, 5 break; the line's first byte, counting from 0, its length with
+// terminator, and its number from 1.
+pub struct Row {
+    pub kind: u64,
+    pub offset: u64,
+    pub length: u64,
+    pub number: u64,
 }
 
 // The end record.

@@ -10,11 +10,12 @@ use lib.Dec.{ltb, leb}
 use lib.ListN.{length, take, drop, length-append, length-drop, length-take}
 use lib.Seq.{drop-at}
 use borrow.Author.Tests.{le-leb, leb-true, le-ltb, lt-leb, lt-ltb, ltb-true, ne-eqb}
+use Rattle.definition.specs.declared.Row.{Row}
 use Rattle.definition.specs.declared.Going.{Going}
 use Rattle.definition.specs.declared.Going.the-variants.{On, LimitMet, NonmatchMet}
 use Rattle.definition.specs.declared.Settings.{Settings}
 use Rattle.definition.specs.Bounds.{allowed, contextual, maxInput, maxWindow}
-use Rattle.definition.specs.Rows.{Row, flat, rowSize}
+use Rattle.definition.specs.Rows.{flat, rowSize}
 use Rattle.definition.specs.State.{stateNext}
 use Rattle.definition.specs.Text.{firstLength, firstPlace, lines}
 use Rattle.definition.proofs.Terminator.{line-ends, lines-head, lines-rest, lines-whole}

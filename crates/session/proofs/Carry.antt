@@ -9,9 +9,10 @@ use native.Mathlib.Omega.{arith}
 use lib.Dec.{ltb, eqb}
 use lib.ListN.{length, take, drop, length-append, length-drop, length-replicate, length-take, replicate}
 use borrow.Author.Tests.{eq-eqb, eqb-true, eqb-false, le-ltb, lt-ltb, ltb-false, ltb-true, ne-eqb}
+use Rattle.definition.specs.declared.Row.{Row}
 use Rattle.definition.specs.declared.Going.the-variants.{On}
 use Rattle.definition.specs.Bounds.{maxInput}
-use Rattle.definition.specs.Rows.{Row, rowSize}
+use Rattle.definition.specs.Rows.{rowSize}
 use Rattle.definition.specs.Text.{text}
 use Rattle.definition.proofs.Uncut.{text-append}
 use Rattle.session.specs.declared.Input.{Input}

@@ -8,6 +8,7 @@ use native.Mathlib.Omega.{arith}
 use lib.Dec.{ltb, eqb}
 use lib.ListN.{length, length-append}
 use borrow.Author.Tests.{eq-eqb, le-ltb, lt-ltb, ltb-true, ltb-false}
+use Rattle.definition.specs.declared.Row.{Row}
 use Rattle.definition.specs.declared.Binary.{Binary}
 use Rattle.definition.specs.declared.Binary.the-variants.{Ignore, Quit, Convert}
 use Rattle.definition.specs.declared.Going.{Going}
@@ -15,7 +16,6 @@ use Rattle.definition.specs.declared.Going.the-variants.{On, LimitMet, Nonmatch
 use Rattle.definition.specs.declared.Place.{Place}
 use Rattle.definition.specs.declared.Place.the-variants.{Nowhere, At}
 use Rattle.definition.specs.Definition.{binaryPlace, causeOf, endRecord, endWith, quitMet}
-use Rattle.definition.specs.Rows.{Row}
 use Rattle.definition.specs.State.{State, begun, rows, state}
 use Rattle.definition.specs.Text.{firstPlace, lines, text, textUnder, upTo}
 use Rattle.definition.proofs.Kept.{rows-stopped, state-append, state-stopped}

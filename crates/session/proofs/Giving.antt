@@ -7,12 +7,15 @@ use mathlib.Core.Logic.{_⊎_, inl, inr, ⊎-elim}
 use native.Mathlib.Omega.{arith}
 use lib.ListN.{length, take, drop, length-append, length-take, length-drop, take-append-drop}
 use lib.Seq.{take-take}
+use Rattle.definition.specs.declared.Row.{Row}
+use Rattle.definition.specs.declared.Fate.{Fate}
+use Rattle.definition.specs.declared.Fate.the-variants.{Match, After, Other, NoRow}
 use Rattle.definition.specs.declared.Binary.{Binary}
 use Rattle.definition.specs.declared.Binary.the-variants.{Ignore, Quit, Convert}
 use Rattle.definition.specs.declared.Going.the-variants.{On}
 use Rattle.definition.specs.declared.Settings.{Settings}
-use Rattle.definition.specs.Definition.{Fate, match, after, other, norow, bytesOf, lastOf, keptLines}
-use Rattle.definition.specs.Rows.{Row, flat}
+use Rattle.definition.specs.Definition.{bytesOf, lastOf, keptLines}
+use Rattle.definition.specs.Rows.{flat}
 use Rattle.definition.specs.State.{State, fateOf, nextLine, begun, rows, state, stateNext, stepRows, stepState, trim}
 use Rattle.definition.specs.Text.{firstPlace, lines, part, replaced, text, textUnder, upTo}
 use Rattle.definition.proofs.Lists.{flatten-append}
@@ -116,10 +119,10 @@ module _ (s : Session) (w : List ℕ) (a : Agree s) (size : length w ≡ s .wind
       → shown (stepped s (stateNext f (s .settings) (shown s w) (lineLength s w)) (lineLength s w) (getsRow f)) w
       ≡ stateNext f (s .settings) (shown s w) (lineLength s w)
   unfolding shown stepped stateNext sinceLines
-  shown-step match h = rw since-none
-  shown-step after h = rw since-none
-  shown-step other h = rw since-none
-  shown-step norow h = rw (since-next h)
+  shown-step Match h = rw since-none
+  shown-step After h = rw since-none
+  shown-step Other h = rw since-none
+  shown-step NoRow h = rw (since-next h)
 
 -- # The invariant
 

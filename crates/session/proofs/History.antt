@@ -7,14 +7,17 @@ use native.Mathlib.Omega.{arith}
 use lib.Dec.{eqb}
 use lib.ListN.{length, take, drop}
 use borrow.Author.Tests.{le-ltb}
+use Rattle.definition.specs.declared.Row.{Row}
+use Rattle.definition.specs.declared.Fate.{Fate}
+use Rattle.definition.specs.declared.Fate.the-variants.{Match, After, Other, NoRow}
 use Rattle.definition.specs.declared.Binary.{Binary}
 use Rattle.definition.specs.declared.Binary.the-variants.{Ignore, Quit, Convert}
 use Rattle.definition.specs.declared.Going.{Going}
 use Rattle.definition.specs.declared.Going.the-variants.{On, LimitMet, NonmatchMet}
 use Rattle.definition.specs.declared.Place.the-variants.{Nowhere}
 use Rattle.definition.specs.declared.Settings.{Settings}
-use Rattle.definition.specs.Definition.{Fate, match, after, other, norow, lastOf, keptLines}
-use Rattle.definition.specs.Rows.{Row, rowSize}
+use Rattle.definition.specs.Definition.{lastOf, keptLines}
+use Rattle.definition.specs.Rows.{rowSize}
 use Rattle.definition.specs.State.{State, fateOf, begun, rows, state, trim}
 use Rattle.definition.specs.Text.{firstPlace, lines, upTo}
 use Rattle.definition.proofs.Kept.{before≤kept, since-counted, stepRows-most}
@@ -129,10 +132,10 @@ module _ (input : List ℕ) (answers : ℕ → Bool) (s : Session) (w rest : Lis
       omega (arith, kept, lines, counted, before≤kept c, length-lastOf (c .before) (shown s w .since), length-lastOf (keptLines c) (shown s w .since), length-lastOf (keptLines c) (b .since))
 
   before-le : (f : Fate) → beforeRows f (s .settings) (shown s w) ≤ s .lines
-  before-le match = since-le
-  before-le after = omega arith
-  before-le other = omega arith
-  before-le norow = omega arith
+  before-le Match = since-le
+  before-le After = omega arith
+  before-le Other = omega arith
+  before-le NoRow = omega arith
 
   pub not-below : (hit : Bool) → belowOne s w hit ≡ false
   unfolding belowOne

@@ -6,9 +6,9 @@ use mathlib.Core.List.{List, [], _++_, flatten}
 use native.Mathlib.Omega.{arith}
 use lib.ListN.{length, length-append}
 use borrow.Author.Tests.{eq-eqb}
+use Rattle.definition.specs.declared.Row.{Row}
 use Rattle.definition.specs.declared.Settings.{Settings}
 use Rattle.definition.specs.Definition.{quitMet}
-use Rattle.definition.specs.Rows.{Row}
 use Rattle.definition.specs.State.{begun, rows, state, trim}
 use Rattle.definition.specs.Text.{lines, part, text}
 use Rattle.definition.proofs.Terminator.{Whole}

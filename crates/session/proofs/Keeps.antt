@@ -8,13 +8,15 @@ use native.Mathlib.Omega.{arith}
 use lib.Dec.{ltb, leb, eqb}
 use lib.ListN.{length, drop, length-take}
 use borrow.Author.Tests.{not-true, ltb-true, leb-true, leb-false, eqb-true, le-leb, eq-eqb}
+use Rattle.definition.specs.declared.Fate.{Fate}
+use Rattle.definition.specs.declared.Fate.the-variants.{Match, After, Other, NoRow}
 use Rattle.definition.specs.declared.Going.{Going}
 use Rattle.definition.specs.declared.Going.the-variants.{On, LimitMet, NonmatchMet}
 use Rattle.definition.specs.declared.Limit.{Limit}
 use Rattle.definition.specs.declared.Limit.the-variants.{Unlimited, Most}
 use Rattle.definition.specs.declared.Settings.{Settings}
 use Rattle.definition.specs.Bounds.{allowed, maxInput, maxWindow}
-use Rattle.definition.specs.Definition.{Fate, match, after, other, norow, limitReached, selected}
+use Rattle.definition.specs.Definition.{limitReached, selected}
 use Rattle.definition.specs.Rows.{rowSize}
 use Rattle.definition.specs.State.{State, fateOf, stateNext}
 use Rattle.definition.proofs.Fates.{FateCase, selects, owes, passes, skips, fate-case, selected-below}
@@ -203,14 +205,14 @@ agree-fate : (s : Session) (w : List ℕ) (hit : Bool) (len : ℕ) (f : Fate) �
     → Agree s → 0 < len → len ≤ s .end - s .next → Agree (stepped s (stateNext f (s .settings) (shown s w) len) len (getsRow f))
 unfolding stateNext shown
 agree-fate s w hit len _ (selects e) a h k =
-    agree-stepped s (stateNext match (s .settings) (shown s w) len) len true a h k refl refl (omega arith)
+    agree-stepped s (stateNext Match (s .settings) (shown s w) len) len true a h k refl refl (omega arith)
     (within-next (s .settings .limit) (s .matches) (selected-below (s .settings) (s .matches) hit e)) (omega arith) (inl refl)
 agree-fate s w hit len _ (owes e l) a h k =
-    agree-stepped s (stateNext after (s .settings) (shown s w) len) len true a h k refl refl (omega arith) (a .limited) (omega arith) (inl refl)
+    agree-stepped s (stateNext After (s .settings) (shown s w) len) len true a h k refl refl (omega arith) (a .limited) (omega arith) (inl refl)
 agree-fate s w hit len _ (passes e l p) a h k =
-    agree-stepped s (stateNext other (s .settings) (shown s w) len) len true a h k refl refl (omega arith) (a .limited) (a .left-after) (inl refl)
+    agree-stepped s (stateNext Other (s .settings) (shown s w) len) len true a h k refl refl (omega arith) (a .limited) (a .left-after) (inl refl)
 agree-fate s w hit len _ (skips e l p) a h k =
-    agree-stepped s (stateNext norow (s .settings) (shown s w) len) len false a h k refl refl (omega arith) (a .limited) (a .left-after) (inr l)
+    agree-stepped s (stateNext NoRow (s .settings) (shown s w) len) len false a h k refl refl (omega arith) (a .limited) (a .left-after) (inr l)
 
 pub agree-given : (s : Session) (w : List ℕ) (hit : Bool) → Agree s → waits s w ≡ true → Agree (answerSession s w hit)
 unfolding answerSession fateOf shown

@@ -8,10 +8,10 @@ use native.Mathlib.Decide.{decLe}
 use native.Mathlib.Omega.{arith}
 use lib.ListN.{length, take, drop, length-take}
 use lib.Seq.{take-take}
+use Rattle.definition.specs.declared.Row.{Row}
 use Rattle.definition.specs.declared.Settings.{Settings}
 use Rattle.definition.specs.Definition.{endOf, endRecord, goneLines, rowsOf}
 use Rattle.definition.specs.Laws.{finalState}
-use Rattle.definition.specs.Rows.{Row}
 use Rattle.definition.specs.State.{State, begun, rows, state, trim}
 use Rattle.definition.specs.Text.{firstPlace, handed, lines, text}
 use Rattle.definition.proofs.Kept.{rows-append}

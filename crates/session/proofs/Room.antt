@@ -8,10 +8,10 @@ use native.Mathlib.Omega.{arith}
 use lib.Dec.{ltb}
 use lib.ListN.{length, take, drop, length-append, length-take}
 use borrow.Author.Tests.{ltb-false}
+use Rattle.definition.specs.declared.Row.{Row}
 use Rattle.definition.specs.declared.Going.the-variants.{On}
 use Rattle.definition.specs.declared.Settings.{Settings}
 use Rattle.definition.specs.Definition.{goneLines}
-use Rattle.definition.specs.Rows.{Row}
 use Rattle.definition.specs.State.{State, begun, rows, state}
 use Rattle.definition.specs.Text.{firstLength, firstPlace, lines, text}
 use Rattle.definition.proofs.Kept.{state-append, state-stopped}

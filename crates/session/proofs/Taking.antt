@@ -9,11 +9,11 @@ use lib.Dec.{ltb, eqb}
 use lib.ListN.{length, take, drop, length-append, length-take, length-drop, take-append-drop}
 use lib.Seq.{drop-at, take-at, take-take}
 use borrow.Author.Tests.{eqb-true, le-ltb, lt-ltb, ltb-true}
+use Rattle.definition.specs.declared.Row.{Row}
 use Rattle.definition.specs.declared.Binary.{Binary}
 use Rattle.definition.specs.declared.Binary.the-variants.{Ignore, Quit, Convert}
 use Rattle.definition.specs.declared.Place.the-variants.{Nowhere, At}
 use Rattle.definition.specs.Definition.{lastOf, quitMet, keptLines}
-use Rattle.definition.specs.Rows.{Row}
 use Rattle.definition.specs.State.{trim}
 use Rattle.definition.specs.Text.{firstPlace, lines, part, text, textUnder, upTo}
 use Rattle.definition.proofs.Lists.{lastOf-lastOf}

@@ -5,6 +5,9 @@ use mathlib.Core.Bool.{Bool, true, false, cond, not, _&&_, _||_}
 use mathlib.Core.List.{List, [], _++_, flatten, map}
 use lib.Dec.{ltb, leb, eqb}
 use lib.ListN.{length, take, drop}
+use Rattle.definition.specs.declared.Row.{Row}
+use Rattle.definition.specs.declared.Fate.{Fate}
+use Rattle.definition.specs.declared.Fate.the-variants.{Match, After, Other, NoRow}
 use Rattle.definition.specs.declared.Binary.{Binary}
 use Rattle.definition.specs.declared.Binary.the-variants.{Ignore, Quit, Convert}
 use Rattle.definition.specs.declared.End.{End}
@@ -14,8 +17,8 @@ use Rattle.definition.specs.declared.Place.{Place}
 use Rattle.definition.specs.declared.Place.the-variants.{Nowhere, At}
 use Rattle.definition.specs.declared.Settings.{Settings}
 use Rattle.definition.specs.Bounds.{allowed, maxInput, maxWindow}
-use Rattle.definition.specs.Definition.{Fate, match, after, other, norow, causeOf, endWith, goingNext, lastOf}
-use Rattle.definition.specs.Rows.{Row, flat, rowSize}
+use Rattle.definition.specs.Definition.{causeOf, endWith, goingNext, lastOf}
+use Rattle.definition.specs.Rows.{flat, rowSize}
 use Rattle.definition.specs.State.{State, fateOf, stepRows, stepState}
 use Rattle.definition.specs.Text.{firstPlace, part, text}
 use Rattle.session.specs.declared.Answered.{Answered}
@@ -180,10 +183,10 @@ unfoldable pub answerRows : Session → List ℕ → Bool → List Row
 answerRows s w hit = stepRows On (s .settings) (shown s w) (lineLength s w) hit
 
 abbrev pub beforeRows : Fate → Settings → State → ℕ
-beforeRows match c t = length (lastOf (c .before) (t .since))
-beforeRows after c t = 0
-beforeRows other c t = 0
-beforeRows norow c t = 0
+beforeRows Match c t = length (lastOf (c .before) (t .since))
+beforeRows After c t = 0
+beforeRows Other c t = 0
+beforeRows NoRow c t = 0
 
 -- "a before row whose number would fall below 1"
 unfoldable pub belowOne : Session → List ℕ → Bool → Bool
@@ -200,10 +203,10 @@ answering s w table hit =
 
 -- whether the line gets a row of its own
 abbrev pub getsRow : Fate → Bool
-getsRow match = true
-getsRow after = true
-getsRow other = true
-getsRow norow = false
+getsRow Match = true
+getsRow After = true
+getsRow Other = true
+getsRow NoRow = false
 
 -- the session after the definition's own step
 unfoldable pub stepped : Session → State → ℕ → Bool → Session

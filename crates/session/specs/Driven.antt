@@ -6,6 +6,7 @@ use mathlib.Core.Bool.{Bool, true, false, cond, _&&_}
 use mathlib.Core.List.{List, [], _∷_, _++_, map}
 use lib.Dec.{eqb}
 use lib.ListN.{length, take, drop, replicate}
+use Rattle.definition.specs.declared.Row.{Row}
 use Rattle.definition.specs.declared.Binary.the-variants.{Quit, Convert}
 use Rattle.definition.specs.declared.End.{End}
 use Rattle.definition.specs.declared.Going.the-variants.{On}
@@ -14,7 +15,7 @@ use Rattle.definition.specs.declared.Place.the-variants.{Nowhere}
 use Rattle.definition.specs.declared.Settings.{Settings}
 use Rattle.definition.specs.Bounds.{maxInput}
 use Rattle.definition.specs.Examples.{Example, answersAt, context, settings, r, e, N, all, P}
-use Rattle.definition.specs.Rows.{Row, rowSize}
+use Rattle.definition.specs.Rows.{rowSize}
 use Rattle.session.specs.declared.Input.the-variants.{Open}
 use Rattle.session.specs.declared.Session.{Session}
 use Rattle.session.specs.Calls.{opened, offered, offeredWindow, waiting, waitingRefusal, shownLine, answered, answeredTable, told, recorded, noRecord}

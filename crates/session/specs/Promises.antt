@@ -6,11 +6,12 @@ use mathlib.Core.Bool.{Bool}
 use mathlib.Core.List.{List, _∷_, _++_}
 use mathlib.Core.Logic.{_⊎_}
 use lib.ListN.{length, take}
+use Rattle.definition.specs.declared.Row.{Row}
 use Rattle.definition.specs.declared.Going.the-variants.{On}
 use Rattle.definition.specs.declared.Settings.{Settings}
 use Rattle.definition.specs.Bounds.{maxInput}
 use Rattle.definition.specs.Definition.{bytesOf, endOf, goneLines, keptPart, rowsOf}
-use Rattle.definition.specs.Rows.{Row, rowSize}
+use Rattle.definition.specs.Rows.{rowSize}
 use Rattle.definition.specs.Text.{handed, lines, text}
 use Rattle.session.specs.declared.Waiting.the-variants.{LineWaits, WaitingRefused}
 use Rattle.session.specs.Calls.{answered, offered, recorded, shownLine, told, waiting}

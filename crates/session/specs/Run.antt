@@ -4,8 +4,9 @@ use mathlib.Core.Path.{_≡_}
 use mathlib.Core.Bool.{Bool}
 use mathlib.Core.List.{List, [], _∷_, _++_}
 use lib.ListN.{length, take, drop, getD}
+use Rattle.definition.specs.declared.Row.{Row}
 use Rattle.definition.specs.declared.Settings.{Settings}
-use Rattle.definition.specs.Rows.{Row, rowSize}
+use Rattle.definition.specs.Rows.{rowSize}
 use Rattle.session.specs.declared.Session.{Session}
 use Rattle.session.specs.declared.Waiting.the-variants.{LineWaits}
 use Rattle.session.specs.Calls.{opened, offered, offeredWindow, waiting, answered, answeredTable, told}
