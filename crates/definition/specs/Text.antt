@@ -1,7 +1,7 @@
 -- 01, "Text", "Lines": what of the input is searched, how it falls into lines, and what the matcher is handed of a line.
 use Prim.Native.Nat.{ℕ, _+_, _-_, min}
 use mathlib.Core.Bool.{cond}
-use mathlib.Core.List.{List, [], _∷_, map}
+use mathlib.Core.List.{List, [], _∷_, _++_, map}
 use lib.Dec.{eqb}
 use lib.ListN.{length, take, drop}
 use Rattle.definition.specs.declared.Binary.{Binary}
@@ -11,6 +11,10 @@ use Rattle.definition.specs.declared.Settings.{Settings}
 -- the bytes from one place up to another
 abbrev pub part : ℕ → ℕ → List ℕ → List ℕ
 part from to bytes = take (to - from) (drop from bytes)
+
+-- a list with others written into it from a place on
+unfoldable pub putAt : ℕ → List ℕ → List ℕ → List ℕ
+putAt at new old = take at old ++ (new ++ drop (at + length new) old)
 
 -- the bytes before the first b; all of them where there is none
 unfoldable pub upTo : ℕ → List ℕ → List ℕ

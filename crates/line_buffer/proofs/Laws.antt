@@ -8,8 +8,8 @@ use native.Mathlib.Omega.{arith}
 use lib.Dec.{eqb}
 use lib.ListN.{length, take, drop, getD, set, drop-of-length-le, length-append, length-drop, take-append-drop}
 use lib.Seq.{append-snoc, drop-append-add, drop-cons, drop-drop, getD-append-add, getD-drop, length-take-le, set-at, take-all, take-at, take-suc}
-use Rattle.definition.specs.Text.{part, replaced}
-use Rattle.line_buffer.specs.Buffer.{rolled, takenIn}
+use Rattle.definition.specs.Text.{part, putAt, replaced}
+use Rattle.line_buffer.specs.Buffer.{rolled}
 
 -- # Writing from the front
 
@@ -50,8 +50,8 @@ roll-none to w =
 -- a piece written into the free tail, as the whole window has it
 pub tail-put : (end n : ℕ) (bytes w : List ℕ) → length bytes ≡ n → end + n ≤ length w
     → take end w ++ ((bytes ++ drop n (take (length w - end) (drop end w))) ++ drop (length w - end) (drop end w))
-    ≡ takenIn end bytes w
-unfolding takenIn
+    ≡ putAt end bytes w
+unfolding putAt
 tail-put end n bytes w e h =
     let size = length-drop end w in
     rw (e, take-all (length w - end) (drop end w) (omega arith), drop-of-length-le (drop end w) {i = length w - end} (omega arith))
@@ -59,8 +59,8 @@ tail-put end n bytes w e h =
 
 -- Rolled, then taken in behind the held part: the window as a list.
 pub roll-take-in : (from to : ℕ) (bytes w : List ℕ) → from ≤ to → to ≤ length w
-    → takenIn (to - from) bytes (rolled from to w) ≡ part from to w ++ (bytes ++ drop (to - from + length bytes) w)
-unfolding takenIn rolled
+    → putAt (to - from) bytes (rolled from to w) ≡ part from to w ++ (bytes ++ drop (to - from + length bytes) w)
+unfolding putAt rolled
 roll-take-in from to bytes w h k =
     let held = part from to w in
     let size : length held ≡ to - from = length-take-le (to - from) (drop from w) (omega (arith, length-drop from w)) in

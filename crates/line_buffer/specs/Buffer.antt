@@ -1,7 +1,7 @@
--- The window after rolling and after taking in: every byte of it.
-use Prim.Native.Nat.{ℕ, _+_, _-_}
+-- The window after rolling, every byte of it, and the bytes of a piece as they are taken in.
+use Prim.Native.Nat.{ℕ, _-_}
 use mathlib.Core.List.{List, _++_}
-use lib.ListN.{length, take, drop}
+use lib.ListN.{drop}
 use Rattle.definition.specs.declared.Binary.{Binary}
 use Rattle.definition.specs.declared.Binary.the-variants.{Ignore, Quit, Convert}
 use Rattle.definition.specs.Text.{part, replaced}
@@ -9,10 +9,6 @@ use Rattle.definition.specs.Text.{part, replaced}
 -- the part between two places at the front; beyond it the window as it was
 unfoldable pub rolled : ℕ → ℕ → List ℕ → List ℕ
 rolled from to window = part from to window ++ drop (to - from) window
-
--- bytes from a place on; before and beyond them the window as it was
-unfoldable pub takenIn : ℕ → List ℕ → List ℕ → List ℕ
-takenIn end bytes window = take end window ++ (bytes ++ drop (end + length bytes) window)
 
 -- the bytes of a piece as they are stored
 abbrev pub converted : Binary → ℕ → List ℕ → List ℕ

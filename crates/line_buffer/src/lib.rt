@@ -8,8 +8,8 @@ ghost use mathlib.Core.Bool.{cond};
 ghost use mathlib.Core.List.{_++_};
 ghost use lib.Dec.{eqb};
 ghost use lib.ListN.{length, drop};
-ghost use Rattle.definition.specs.Text.{firstPlace, replaced};
-ghost use Rattle.line_buffer.specs.Buffer.{converted, rolled, takenIn};
+ghost use Rattle.definition.specs.Text.{firstPlace, putAt, replaced};
+ghost use Rattle.line_buffer.specs.Buffer.{converted, rolled};
 
 // The part between two places moves to the window's front; what it does not cover there stays.
 pub fn roll(window: &mut [u8], from: usize, to: usize)
@@ -29,7 +29,7 @@ pub fn roll(window: &mut [u8], from: usize, to: usize)
 // A piece goes into the window from the held end on, converted if set; places beyond it stay.
 pub fn take_in(window: &mut [u8], end: usize, piece: &[u8], binary: Binary, terminator: u8)
     requires { ⌜ end + length (now piece) ≤ length (now window) ⌝ }
-    ensures { λ _. ⌜ now (window .exit) ≡ takenIn end (converted binary terminator (now (piece .entry))) (now (window .entry)) ⌝ }
+    ensures { λ _. ⌜ now (window .exit) ≡ putAt end (converted binary terminator (now (piece .entry))) (now (window .entry)) ⌝ }
 {
     match binary {
         Binary::Ignore => copy(&mut window[end..], piece),

@@ -7,7 +7,7 @@ use lib.Dec.{eqb}
 use borrow.Author.Tests.{ltb-true, leb-true, lt-ltb, le-leb}
 use Rattle.definition.specs.Bounds.{allowed, maxInput, maxWindow}
 use Rattle.session.specs.declared.Session.{Session}
-use Rattle.session.specs.Sound.{agrees, every, takenBytes, tests, withinLimit}
+use Rattle.session.specs.Sound.{Agree, agrees, every, takenBytes, tests, withinLimit}
 
 abbrev All : List Bool → Type 0
 All [] = Unit {0}
@@ -20,21 +20,6 @@ every-all (b ∷ bs) e = (and-eq-true-iff b (every bs) .0 e .0, every-all bs (an
 all-every : (bs : List Bool) → All bs → every bs ≡ true
 all-every [] h = refl
 all-every (b ∷ bs) h = and-eq-true-iff b (every bs) .1 (h .0, all-every bs (h .1))
-
-pub record Agree (s : Session) : Type 0 where
-  pub set : allowed (s .settings) ≡ true
-  pub some : 0 < s .window
-  pub most : s .window ≤ maxWindow
-  pub floor-next : s .floor ≤ s .next
-  pub next-end : s .next ≤ s .end
-  pub end-window : s .end ≤ s .window
-  pub back : s .next - s .floor ≤ s .bytes
-  pub size : s .bytes + (s .end - s .next) ≤ maxInput
-  pub counted : s .lines ≤ s .bytes
-  pub matched : s .matches ≤ s .lines
-  pub limited : withinLimit (s .settings .limit) (s .matches) ≡ true
-  pub left-after : s .left ≤ s .settings .after
-  pub owed : (eqb (s .left) 0 || eqb (s .floor) (s .next)) ≡ true
 
 pub agree-of : (s : Session) → agrees s ≡ true → Agree s
 unfolding agrees tests takenBytes

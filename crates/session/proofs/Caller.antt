@@ -31,8 +31,8 @@ use Rattle.session.specs.declared.Waiting.the-variants.{LineWaits, NoneW
 use Rattle.session.specs.Calls.{answerAnswer, answerRows, answerSession, answerTable, answered, answeredTable, answering, beforeQuit, belowOne, idle, inputTold, offerAnswer, offerWindow, offered, offeredWindow, offering, opened, opening, putRows, quitFront, recorded, recording, remains, shownLine, shownWhere, stepped, stored, taking, told, toldSession, waiting}
 use Rattle.session.specs.Caller.{waitingIn, unfinishedIn, waitingBytes, unfinishedBytes, wholeBytes, loneBytes, Reached, opens, offers, answers, tells, Agreeing, Answers, Balance, NothingTwice, Offers, OfferServed, Others, Progress, RefusalsChangeNothing, RowsStay, WhenAndOnlyThen, WindowStays}
 use Rattle.session.specs.Held.{heldBytes, isOn, isOpen, keptFrom, lineBytes, shown, unanswered, waits}
-use Rattle.session.specs.Sound.{agrees, closed, sound, takenBytes, tests}
-use Rattle.session.proofs.Agree.{Agree, agrees-of}
+use Rattle.session.specs.Sound.{Agree, agrees, closed, sound, takenBytes, tests}
+use Rattle.session.proofs.Agree.{agrees-of}
 use Rattle.session.proofs.Carry.{busy, fitting-some, front-quits, not-front}
 use Rattle.session.proofs.Cases.{OfferCase, unsound, idling, quits, sized, full, takes, offer-case, offer-only, answer-only, AnswerCase, few, gives, none, below, answer-case}
 use Rattle.session.proofs.Cases as Cases

@@ -24,8 +24,8 @@ use Rattle.session.specs.Calls.{answerSession, answered, beforeQuit, fit
 use Rattle.session.specs.Held.{heldBytes, isOn, isOpen, keptFrom, lineBytes, unanswered, waits}
 use Rattle.session.specs.Promises.{Ends, NoRoom, Within}
 use Rattle.session.specs.Run.{At, Steps, here, offer, answer, tell, atAnswer, atEnd, atOffer}
-use Rattle.session.specs.Sound.{takenBytes}
-use Rattle.session.proofs.Agree.{Agree, agrees-of}
+use Rattle.session.specs.Sound.{Agree, takenBytes}
+use Rattle.session.proofs.Agree.{agrees-of}
 use Rattle.session.proofs.Cases.{OfferCase, unsound, idling, quits, sized, full, takes, offer-case}
 use Rattle.session.proofs.History.{InvAt, answer-gives, inv-steps, join, steps-stay}
 use Rattle.session.proofs.Invariant.{Inv, sound-now, taken-is, unanswered-length}

@@ -29,7 +29,7 @@ use Rattle.session.specs.Calls.{answerRows, answerSession, getsRow, step
 use Rattle.session.specs.Held.{backFrom, isOpen, keptBytes, lineBytes, lineLength, shown, sinceLines, unanswered, waits}
 use Rattle.session.specs.Promises.{Fitted, keptBefore}
 use Rattle.session.specs.Run.{rowsIn}
-use Rattle.session.proofs.Agree.{Agree}
+use Rattle.session.specs.Sound.{Agree}
 use Rattle.session.proofs.Invariant.{Inv, InputNow, unanswered-length}
 use Rattle.session.proofs.Keeps.{agree-given, line-le, waiting-length, waits-why}
 use Rattle.session.proofs.Parts.{backFrom-bytes, backFrom-last, backFrom-snoc, kept-le, part-drop, part-none, part-split}

@@ -19,8 +19,8 @@ use Rattle.session.specs.declared.Session.{Session}
 use Rattle.session.specs.Calls.{replacedIn}
 use Rattle.session.specs.Held.{shown, unanswered}
 use Rattle.session.specs.Promises.{Fitted}
-use Rattle.session.specs.Sound.{sound, takenBytes}
-use Rattle.session.proofs.Agree.{Agree, agrees-of}
+use Rattle.session.specs.Sound.{Agree, sound, takenBytes}
+use Rattle.session.proofs.Agree.{agrees-of}
 use Rattle.session.proofs.Parts.{part-length}
 
 -- how the input stands, for what is left of it

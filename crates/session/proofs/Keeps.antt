@@ -27,8 +27,8 @@ use Rattle.session.specs.declared.Offering.the-variants.{OfferRefused, I
 use Rattle.session.specs.declared.Session.{Session}
 use Rattle.session.specs.Calls.{answerAnswer, answerRows, answerSession, answered, answering, beforeQuit, fitting, fresh, getsRow, offerAnswer, offered, offering, opened, opening, stepped, stored, taking, told, toldSession}
 use Rattle.session.specs.Held.{heldBytes, isOn, isOpen, keptBytes, keptFrom, lineBytes, lineLength, shown, unanswered, waits}
-use Rattle.session.specs.Sound.{agrees, sound, takenBytes, withinLimit}
-use Rattle.session.proofs.Agree.{Agree, agree-of, agrees-of}
+use Rattle.session.specs.Sound.{Agree, agrees, sound, takenBytes, withinLimit}
+use Rattle.session.proofs.Agree.{agree-of, agrees-of}
 use Rattle.session.proofs.Cases.{OfferCase, unsound, idling, quits, sized, full, takes, offer-case, AnswerCase, few, gives, none, below, answer-case}
 use Rattle.session.proofs.Cases as Cases
 use Rattle.session.proofs.Parts.{kept-le}

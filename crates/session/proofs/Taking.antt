@@ -23,7 +23,7 @@ use Rattle.session.specs.declared.Input.the-variants.{Open, QuitFound}
 use Rattle.session.specs.declared.Session.{Session}
 use Rattle.session.specs.Calls.{beforeQuit, firstOf, quitPlace, replacedIn, stored, storedWindow}
 use Rattle.session.specs.Held.{backFrom, keptFrom, shown, sinceLines, unanswered}
-use Rattle.session.proofs.Agree.{Agree}
+use Rattle.session.specs.Sound.{Agree}
 use Rattle.session.proofs.Invariant.{Inv, InputNow, taken-is, unanswered-length}
 use Rattle.session.proofs.Keeps.{Room, agree-stored}
 use Rattle.session.proofs.Parts.{backFrom-last, kept-part, part-length, part-split}

@@ -1,5 +1,6 @@
 -- 01, refusal 6: the list of numbers that contradict each other, and the closed session.
-use Prim.Native.Nat.{ℕ, _+_, _-_}
+use Prim.Native.Nat.{ℕ, _+_, _-_, _≤_, _<_}
+use mathlib.Core.Path.{_≡_}
 use mathlib.Core.Bool.{Bool, true, false, _&&_, _||_}
 use mathlib.Core.List.{List, [], _∷_}
 use lib.Dec.{ltb, leb, eqb}
@@ -44,6 +45,22 @@ every (b ∷ bs) = b && every bs
 
 unfoldable pub agrees : Session → Bool
 agrees s = every (tests s)
+
+-- what the tests say, as facts (proofs/Agree.antt: agree-of, agrees-of)
+pub record Agree (s : Session) : Type 0 where
+  pub set : allowed (s .settings) ≡ true
+  pub some : 0 < s .window
+  pub most : s .window ≤ maxWindow
+  pub floor-next : s .floor ≤ s .next
+  pub next-end : s .next ≤ s .end
+  pub end-window : s .end ≤ s .window
+  pub back : s .next - s .floor ≤ s .bytes
+  pub size : s .bytes + (s .end - s .next) ≤ maxInput
+  pub counted : s .lines ≤ s .bytes
+  pub matched : s .matches ≤ s .lines
+  pub limited : withinLimit (s .settings .limit) (s .matches) ≡ true
+  pub left-after : s .left ≤ s .settings .after
+  pub owed : (eqb (s .left) 0 || eqb (s .floor) (s .next)) ≡ true
 
 -- "any call on a closed session, with a window of another length than at opening, or on a session whose numbers contradict each other"
 unfoldable pub sound : Session → ℕ → Bool

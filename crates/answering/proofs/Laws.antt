@@ -1,0 +1,2 @@
+-- Laws of answering.
+use Prim.Native.Nat.{ℕ}

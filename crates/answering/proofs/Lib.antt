@@ -1,0 +1,2 @@
+-- What is proved of answering.
+pub mod Laws

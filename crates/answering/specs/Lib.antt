@@ -1,0 +1,2 @@
+-- What an answer gives, as the code divides it.
+pub mod Giving

@@ -1,0 +1,2 @@
+-- Laws of the questions.
+use Prim.Native.Nat.{ℕ}

@@ -1,0 +1,11 @@
+use Rattle.held.proofs.has_context.Statement.{statement}
+use Rattle.held.proofs.has_context.Tie as tie
+use Rattle.held.proofs.has_context.Reads as reads
+use Rattle.held.proofs.has_context.Lts as lts
+
+-- src/lib.rt:63:1
+returns : tie.Need-returns
+returns c = ?
+
+pub has-context-spec : {M : Type 1} → statement M
+has-context-spec = tie.close (tie.spec returns)

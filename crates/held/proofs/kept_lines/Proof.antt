@@ -1,0 +1,25 @@
+use borrow.Author.Needs.{needs}
+use Rattle.held.proofs.kept_lines.Statement.{statement}
+use Rattle.held.proofs.kept_lines.Tie as tie
+use Rattle.held.proofs.kept_lines.Reads as reads
+use Rattle.held.proofs.kept_lines.Lts as lts
+use Rattle.held.proofs.has_context.Reads as has-context-reads
+
+-- src/lib.rt:148:8
+has-context-requires : tie.Need-has-context-requires
+has-context-requires c κs = search needs
+
+-- src/lib.rt:148:25
+add-result : tie.Need-add-result
+add-result c = search needs
+
+-- src/lib.rt:144:1
+returns : tie.Need-returns
+returns c = ?
+
+-- src/lib.rt:144:1
+returns-2 : tie.Need-returns-2
+returns-2 c = ?
+
+pub kept-lines-spec : {M : Type 1} → statement M
+kept-lines-spec = tie.close (tie.spec has-context-requires add-result returns returns-2)

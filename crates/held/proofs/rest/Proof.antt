@@ -1,0 +1,21 @@
+use borrow.Author.Needs.{needs}
+use Rattle.held.proofs.rest.Statement.{statement}
+use Rattle.held.proofs.rest.Tie as tie
+use Rattle.held.proofs.rest.Reads as reads
+use Rattle.held.proofs.rest.Lts as lts
+use Rattle.held.proofs.is_open.Reads as is-open-reads
+
+-- src/lib.rt:140:8
+is-open-requires : tie.Need-is-open-requires
+is-open-requires c κs = search needs
+
+-- src/lib.rt:137:1
+returns : tie.Need-returns
+returns c = ?
+
+-- src/lib.rt:137:1
+returns-2 : tie.Need-returns-2
+returns-2 c = ?
+
+pub rest-spec : {M : Type 1} → statement M
+rest-spec = tie.close (tie.spec is-open-requires returns returns-2)

@@ -1,0 +1,2 @@
+-- Laws of offering.
+use Prim.Native.Nat.{ℕ}

@@ -1,0 +1,2 @@
+-- What is proved of offering.
+pub mod Laws

@@ -1,0 +1,50 @@
+-- The decision of an offer with the place where the kept part starts, and what the parts of the code lean on.
+use Prim.Native.Nat.{ℕ, _+_, _-_, _≤_, min}
+use mathlib.Core.Bool.{Bool, not, _&&_, _||_}
+use mathlib.Core.List.{List}
+use mathlib.Core.Path.{_≡_}
+use lib.Dec.{ltb, eqb}
+use lib.ListN.{length}
+use Rattle.definition.specs.declared.Binary.{Binary}
+use Rattle.session.specs.declared.Offering.{Offering}
+use Rattle.session.specs.declared.Offering.the-variants.{OfferRefused, Idle, Take}
+use Rattle.session.specs.declared.Session.{Session}
+use Rattle.session.specs.Calls.{offering, quitPlace}
+use Rattle.session.specs.Held.{isOn, isOpen, keptFrom}
+use Rattle.session.specs.Sound.{Agree}
+use Rattle.offering.specs.declared.Plan.{Plan}
+use Rattle.offering.specs.declared.Plan.the-variants.{Refuse, Nothing, Store}
+use Rattle.offering.specs.declared.Reach.{Reach}
+
+abbrev pub planOf : Offering → ℕ → Plan
+planOf (OfferRefused k) from = Refuse k
+planOf Idle from = Nothing
+planOf (Take n quit) from = Store from n quit
+
+unfoldable pub planned : Session → List ℕ → List ℕ → Plan
+planned s w piece = planOf (offering s w piece) (keptFrom s w)
+
+-- `idle` of a piece's length
+unfoldable pub idleAt : Session → ℕ → Bool
+idleAt s piece = eqb piece 0 || not (isOpen (s .input)) || not (isOn (s .going))
+
+-- as many bytes as come before a Quit byte and have room
+unfoldable pub reached : Binary → List ℕ → ℕ → Reach
+reached binary piece room =
+    record {
+      taken = min (quitPlace binary piece) room;
+      quit = eqb (min (quitPlace binary piece) room) (quitPlace binary piece) && ltb (min (quitPlace binary piece) room) (length piece);
+    }
+
+-- a session that agrees with itself and the window, and where its kept part starts
+pub record Sounded (s : Session) (w : List ℕ) (from : ℕ) : Type 0 where
+  pub agree : Agree s
+  pub same : length w ≡ s .window
+  pub from-is : from ≡ keptFrom s w
+
+-- and bytes of a piece that have room behind it and no Quit byte among them
+pub record Storing (s : Session) (w piece : List ℕ) (from n : ℕ) : Type 0 where
+  pub sounded : Sounded s w from
+  pub fits : s .end - from + n ≤ s .window
+  pub some : n ≤ length piece
+  pub uncut : n ≤ quitPlace (s .settings .binary) piece

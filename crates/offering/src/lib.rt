@@ -1,0 +1,222 @@
+// Offering a piece: first what is to be done, in the order of the refusals, then the window's bytes and the session.
+use definition::Binary;
+use definition::Place;
+use held::NextLine;
+use lines::Found;
+use session::Input;
+use session::Offered;
+use session::Session;
+ghost use mathlib.Core.Path.{_≡_};
+ghost use mathlib.Core.Bool.{false, cond, not, _&&_};
+ghost use Prim.Native.Nat.{_≤_, min};
+ghost use lib.Dec.{eqb};
+ghost use lib.ListN.{length};
+ghost use Rattle.definition.specs.Bounds.{maxInput, maxWindow};
+ghost use Rattle.session.specs.declared.Input.the-variants.{Open, QuitFound};
+ghost use Rattle.session.specs.Calls.{firstOf, idle, offered, offeredWindow, quitPlace, replacedIn, stored, storedWindow};
+ghost use Rattle.session.specs.Held.{waits};
+ghost use Rattle.offering.specs.Plan.{Sounded, Storing, idleAt, planned, reached};
+
+// What an offer does: refuse by a number, change nothing, or move the window's bytes from a place on to its front and
+// take some bytes in, and whether a Quit byte comes next after them.
+pub enum Plan {
+    Refuse(u64),
+    Nothing,
+    Store(usize, usize, bool),
+}
+
+// How many bytes of a piece come in, and whether a Quit byte comes next after them.
+pub struct Reach {
+    pub taken: usize,
+    pub quit: bool,
+}
+
+pub fn offer(s: Session, window: &mut [u8], piece: &[u8]) -> Offered
+    ensures { λ r. ⌜ r ≡ offered s (now (window .entry)) (now (piece .entry)) ⌝ }
+    ensures { λ _. ⌜ now (window .exit) ≡ offeredWindow s (now (window .entry)) (now (piece .entry)) ⌝ }
+{
+    let plan = plan(s, &window[..], piece);
+    match plan {
+        Plan::Refuse(k) => Offered {
+            refusal: k,
+            taken: 0,
+            session: s,
+        },
+        Plan::Nothing => Offered {
+            refusal: 0,
+            taken: 0,
+            session: s,
+        },
+        Plan::Store(from, n, quit) => {
+            let next = store(s, window, piece, from, n, quit);
+            Offered {
+                refusal: 0,
+                taken: n,
+                session: next,
+            }
+        }
+    }
+}
+
+fn plan(s: Session, window: &[u8], piece: &[u8]) -> Plan
+    ensures { λ r. ⌜ r ≡ planned s (now (window .entry)) (now (piece .entry)) ⌝ }
+{
+    if !held::is_sound(s, window.len()) {
+        return Plan::Refuse(6);
+    }
+    if is_idle(s, piece.len()) {
+        return Plan::Nothing;
+    }
+    plan_from(s, window, piece, held::kept_from(s, window))
+}
+
+// An empty piece, or one after the end or a stop.
+fn is_idle(s: Session, piece: usize) -> bool
+    ensures { λ r. ⌜ r ≡ idleAt s piece ⌝ }
+{
+    let input = s.input;
+    let going = s.going;
+    (piece == 0) | !held::is_open(input) | !held::is_on(going)
+}
+
+// A piece with bytes while the input is open: what of it comes in behind the part that is held from a place on.
+fn plan_from(s: Session, window: &[u8], piece: &[u8], from: usize) -> Plan
+    requires { ⌜ Sounded s (now window) from ⌝ }
+    requires { ⌜ idle s (now piece) ≡ false ⌝ }
+    ensures { λ r. ⌜ r ≡ planned s (now (window .entry)) (now (piece .entry)) ⌝ }
+{
+    let c = s.settings;
+    let binary = c.binary;
+    let free = s.window - (s.end - from);
+    let left = definition::MAX_INPUT - (s.bytes + ((s.end - s.next) as u64));
+    let reach = reach(binary, piece, least(free, left as usize));
+    if reach.quit & (reach.taken == 0) {
+        return Plan::Store(from, 0, true);
+    }
+    if left == 0 {
+        return Plan::Refuse(5);
+    }
+    if is_stuck(s, window, free) {
+        return Plan::Refuse(3);
+    }
+    Plan::Store(from, reach.taken, reach.quit)
+}
+
+// Looks no further into the piece than one byte past what there is room for.
+fn reach(binary: Binary, piece: &[u8], room: usize) -> Reach
+    requires { ⌜ room ≤ maxWindow ⌝ }
+    ensures { λ r. ⌜ r ≡ reached binary (now (piece .entry)) room ⌝ }
+{
+    let seen = least(piece.len(), room + 1);
+    let before = before_quit(binary, &piece[..seen]);
+    let taken = least(before, room);
+    Reach {
+        taken: taken,
+        quit: (taken == before) & (taken < piece.len()),
+    }
+}
+
+fn before_quit(binary: Binary, piece: &[u8]) -> usize
+    ensures { λ r. ⌜ r ≡ quitPlace binary (now (piece .entry)) ⌝ }
+{
+    match binary {
+        Binary::Ignore => piece.len(),
+        Binary::Quit(byte) => line_buffer::first_place(piece, byte),
+        Binary::Convert(_) => piece.len(),
+    }
+}
+
+fn least(a: usize, b: usize) -> usize
+    ensures { λ r. ⌜ r ≡ min a b ⌝ }
+{
+    if a < b { a } else { b }
+}
+
+// No room is left and no line waits. The window is looked at only where there is no room.
+fn is_stuck(s: Session, window: &[u8], free: usize) -> bool
+    requires { ⌜ (s .next ≤ s .end) × (s .end ≤ length (now window)) ⌝ }
+    ensures { λ r. ⌜ r ≡ (not (waits s (now (window .entry))) && eqb free 0) ⌝ }
+{
+    if 0 < free {
+        return false;
+    }
+    match held::next_line(s, window) {
+        NextLine::Line(_) => false,
+        NextLine::NoLine => true,
+    }
+}
+
+// The held part moves to the front, and the first n bytes of the piece come in behind it.
+fn store(s: Session, window: &mut [u8], piece: &[u8], from: usize, n: usize, quit: bool) -> Session
+    requires { ⌜ Storing s (now window) (now piece) from n ⌝ }
+    ensures { λ r. ⌜ r ≡ stored s (now (window .entry)) (now (piece .entry)) n quit ⌝ }
+    ensures { λ _. ⌜ now (window .exit) ≡ storedWindow s (now (window .entry)) (now (piece .entry)) n ⌝ }
+{
+    let c = s.settings;
+    let binary = c.binary;
+    let place = s.replaced;
+    let going = s.going;
+    let end = s.end;
+    let part = &piece[..n];
+    line_buffer::roll(window, from, end);
+    line_buffer::take_in(window, end - from, part, binary, c.terminator);
+    let taken = s.bytes + ((end - s.next) as u64);
+    let replaced = first_replaced(place, binary, c.terminator, taken, part);
+    let input = input_after(quit);
+    Session {
+        settings: c,
+        window: s.window,
+        floor: 0,
+        next: s.next - from,
+        end: end - from + n,
+        bytes: s.bytes,
+        lines: s.lines,
+        matches: s.matches,
+        left: s.left,
+        given: s.given,
+        going: going,
+        input: input,
+        replaced: replaced,
+    }
+}
+
+fn input_after(quit: bool) -> Input
+    ensures { λ r. ⌜ r ≡ cond quit QuitFound Open ⌝ }
+{
+    if quit { Input::QuitFound } else { Input::Open }
+}
+
+// The first replaced byte so far. Once there is one, no piece is looked through for it.
+fn first_replaced(place: Place, binary: Binary, terminator: u8, offset: u64, bytes: &[u8]) -> Place
+    requires { ⌜ offset ≤ maxInput ⌝ }
+    ensures { λ r. ⌜ r ≡ firstOf place (replacedIn binary terminator offset (now (bytes .entry))) ⌝ }
+{
+    match place {
+        Place::At(p) => Place::At(p),
+        Place::Nowhere => replaced_in(binary, terminator, offset, bytes),
+    }
+}
+
+fn replaced_in(binary: Binary, terminator: u8, offset: u64, bytes: &[u8]) -> Place
+    requires { ⌜ offset ≤ maxInput ⌝ }
+    ensures { λ r. ⌜ r ≡ replacedIn binary terminator offset (now (bytes .entry)) ⌝ }
+{
+    match binary {
+        Binary::Ignore => Place::Nowhere,
+        Binary::Quit(_) => Place::Nowhere,
+        Binary::Convert(byte) => converted_place(byte, terminator, offset, bytes),
+    }
+}
+
+fn converted_place(byte: u8, terminator: u8, offset: u64, bytes: &[u8]) -> Place
+    requires { ⌜ offset ≤ maxInput ⌝ }
+    ensures { λ r. ⌜ r ≡ replacedIn (Binary.Convert byte) terminator offset (now (bytes .entry)) ⌝ }
+{
+    if byte == terminator {
+        return Place::Nowhere;
+    }
+    match lines::find(bytes, byte) {
+        Found::At(i) => Place::At(offset + (i as u64)),
+        Found::Nothing => Place::Nowhere,
+    }
+}

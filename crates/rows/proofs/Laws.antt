@@ -1,0 +1,2 @@
+-- Laws of the table.
+use Prim.Native.Nat.{ℕ}

@@ -1,0 +1,2 @@
+-- What is proved of the table's rows.
+pub mod Laws

@@ -1,0 +1,2 @@
+-- What the rows of before-context are as numbers.
+pub mod Table

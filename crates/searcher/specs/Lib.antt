@@ -1,0 +1,2 @@
+-- What the public calls hand back.
+pub mod Door

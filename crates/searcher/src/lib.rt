@@ -1,0 +1,358 @@
+// The public door: a searcher is a small value that each call takes and hands back. It is opened, offered pieces, asked
+// for the waiting line, answered, told of the end, and asked for the end record. Each call serves any arguments whatever.
+use definition::Binary;
+use definition::End;
+use definition::Going;
+use definition::Limit;
+use definition::Place;
+use definition::Settings;
+use held::NextLine;
+use session::Input;
+use session::Recorded;
+use session::Session;
+use session::Waiting;
+ghost use mathlib.Core.Path.{_≡_};
+ghost use mathlib.Core.Bool.{cond};
+ghost use Rattle.session.specs.Calls.{answered, answeredTable, offered, offeredWindow, opened, recorded, shownLine, told, waiting};
+ghost use Rattle.session.specs.Sound.{closed};
+ghost use Rattle.searcher.specs.Door.{doorAnswered, doorOffered, doorOpened, doorTold};
+
+pub struct Searcher {
+    pub session: Session,
+}
+
+pub struct Opened {
+    pub refusal: u64,
+    pub searcher: Searcher,
+}
+
+pub struct Offered {
+    pub refusal: u64,
+    // how many bytes of the piece were taken
+    pub taken: usize,
+    pub searcher: Searcher,
+}
+
+pub struct Answered {
+    pub refusal: u64,
+    // how many rows were written
+    pub rows: usize,
+    pub searcher: Searcher,
+}
+
+pub struct Told {
+    pub refusal: u64,
+    pub searcher: Searcher,
+}
+
+impl Searcher {
+    // The searcher that answers 6 to everything.
+    pub fn closed() -> Searcher
+        ensures { λ r. ⌜ r .session ≡ closed ⌝ }
+    {
+        Searcher {
+            session: closed_session(),
+        }
+    }
+
+    // Opens a search with a window of a length; refusals 1 and 2.
+    pub fn open(settings: Settings, window: usize) -> Opened
+        ensures { λ r. ⌜ r ≡ doorOpened (opened settings window) ⌝ }
+    {
+        if !held::are_allowed(settings) {
+            return Opened {
+                refusal: 1,
+                searcher: Searcher::closed(),
+            };
+        }
+        if (window == 0) | (definition::MAX_WINDOW < window) {
+            return Opened {
+                refusal: 2,
+                searcher: Searcher::closed(),
+            };
+        }
+        Opened {
+            refusal: 0,
+            searcher: Searcher {
+                session: fresh_session(settings, window),
+            },
+        }
+    }
+
+    // Takes in what of a piece has room; refusals 3, 5 and 6.
+    pub fn offer(self, window: &mut [u8], piece: &[u8]) -> Offered
+        ensures { λ r. ⌜ r ≡ doorOffered (offered (self .session) (now (window .entry)) (now (piece .entry))) ⌝ }
+        ensures { λ _. ⌜ now (window .exit) ≡ offeredWindow (self .session) (now (window .entry)) (now (piece .entry)) ⌝ }
+    {
+        let s = self.session;
+        let o = offering::offer(s, window, piece);
+        let next = o.session;
+        Offered {
+            refusal: o.refusal,
+            taken: o.taken,
+            searcher: Searcher { session: next },
+        }
+    }
+
+    // Tells whether a line waits, or refusal 6.
+    pub fn waiting(self, window: &[u8]) -> Waiting
+        ensures { λ r. ⌜ r ≡ waiting (self .session) (now (window .entry)) ⌝ }
+    {
+        let s = self.session;
+        if !held::is_sound(s, window.len()) {
+            return Waiting::WaitingRefused;
+        }
+        match held::next_line(s, window) {
+            NextLine::Line(_) => Waiting::LineWaits,
+            NextLine::NoLine => Waiting::NoneWaits,
+        }
+    }
+
+    // Shows the waiting line, without its terminator, as a part of the window itself; empty where none waits.
+    pub fn line(self, window: &[u8]) -> &[u8]
+        ensures { λ r. ⌜ now r ≡ shownLine (self .session) (now (window .entry)) ⌝ }
+    {
+        let s = self.session;
+        if !held::is_sound(s, window.len()) {
+            return &window[..0];
+        }
+        match held::next_line(s, window) {
+            NextLine::Line(length) => {
+                let next = s.next;
+                let end = next + length;
+                let c = s.settings;
+                lines::without_terminator(&window[next..end], c.terminator)
+            }
+            NextLine::NoLine => &window[..0],
+        }
+    }
+
+    // Answers the waiting line: its rows go into the table from its front; refusals 4 and 6.
+    pub fn answer(self, window: &[u8], table: &mut [u64], hit: bool) -> Answered
+        ensures { λ r. ⌜ r ≡ doorAnswered (answered (self .session) (now (window .entry)) (now (table .entry)) hit) ⌝ }
+        ensures { λ _. ⌜ now (table .exit) ≡ answeredTable (self .session) (now (window .entry)) (now (table .entry)) hit ⌝ }
+    {
+        let s = self.session;
+        let a = answering::answer(s, window, table, hit);
+        let next = a.session;
+        Answered {
+            refusal: a.refusal,
+            rows: a.rows,
+            searcher: Searcher { session: next },
+        }
+    }
+
+    // Tells the end of the input; refusal 6.
+    pub fn tell_end(self) -> Told
+        ensures { λ r. ⌜ r ≡ doorTold (told (self .session)) ⌝ }
+    {
+        let s = self.session;
+        if !held::agree(s) {
+            return Told {
+                refusal: 6,
+                searcher: self,
+            };
+        }
+        Told {
+            refusal: 0,
+            searcher: Searcher {
+                session: told_session(s),
+            },
+        }
+    }
+
+    // The end record, once nothing remains; refusals 6 and 7.
+    pub fn end_record(self) -> Recorded
+        ensures { λ r. ⌜ r ≡ recorded (self .session) ⌝ }
+    {
+        let s = self.session;
+        if !held::agree(s) {
+            return Recorded {
+                refusal: 6,
+                end: no_record(),
+            };
+        }
+        if remains(s) {
+            return Recorded {
+                refusal: 7,
+                end: no_record(),
+            };
+        }
+        Recorded {
+            refusal: 0,
+            end: record_of(s),
+        }
+    }
+}
+
+fn closed_session() -> Session {
+    Session {
+        settings: Settings {
+            before: 0,
+            after: 0,
+            invert: false,
+            passthru: false,
+            stop: false,
+            limit: Limit::Unlimited,
+            terminator: 0,
+            binary: Binary::Ignore,
+        },
+        window: 0,
+        floor: 0,
+        next: 0,
+        end: 0,
+        bytes: 0,
+        lines: 0,
+        matches: 0,
+        left: 0,
+        given: false,
+        going: Going::On,
+        input: Input::Open,
+        replaced: Place::Nowhere,
+    }
+}
+
+fn fresh_session(settings: Settings, window: usize) -> Session {
+    Session {
+        settings: settings,
+        window: window,
+        floor: 0,
+        next: 0,
+        end: 0,
+        bytes: 0,
+        lines: 0,
+        matches: 0,
+        left: 0,
+        given: false,
+        going: answering::going_next(settings, false, 0, 0),
+        input: Input::Open,
+        replaced: Place::Nowhere,
+    }
+}
+
+fn told_session(s: Session) -> Session {
+    let c = s.settings;
+    let going = s.going;
+    let input = s.input;
+    let replaced = s.replaced;
+    Session {
+        settings: c,
+        window: s.window,
+        floor: s.floor,
+        next: s.next,
+        end: s.end,
+        bytes: s.bytes,
+        lines: s.lines,
+        matches: s.matches,
+        left: s.left,
+        given: s.given,
+        going: going,
+        input: input_told(going, input),
+        replaced: replaced,
+    }
+}
+
+fn input_told(going: Going, input: Input) -> Input {
+    match going {
+        Going::On => end_input(input),
+        Going::LimitMet => input,
+        Going::NonmatchMet => input,
+    }
+}
+
+fn end_input(input: Input) -> Input {
+    match input {
+        Input::Open => Input::Ended,
+        Input::Ended => Input::Ended,
+        Input::QuitFound => Input::QuitFound,
+    }
+}
+
+// Lines or input remain, and no stop has come.
+fn remains(s: Session) -> bool {
+    let going = s.going;
+    let input = s.input;
+    held::is_on(going) & (held::is_open(input) | (s.next < s.end))
+}
+
+fn no_record() -> End {
+    End {
+        bytes: 0,
+        lines: 0,
+        matches: 0,
+        cause: 0,
+        flag: 0,
+        offset: 0,
+    }
+}
+
+fn record_of(s: Session) -> End {
+    let going = s.going;
+    let input = s.input;
+    let cause = cause_of(going, input);
+    let place = recorded_place(s, cause);
+    End {
+        bytes: s.bytes,
+        lines: s.lines,
+        matches: s.matches,
+        cause: cause,
+        flag: flag_of(place),
+        offset: offset_of(place),
+    }
+}
+
+fn cause_of(going: Going, input: Input) -> u64 {
+    match going {
+        Going::On => input_cause(input),
+        Going::LimitMet => 2,
+        Going::NonmatchMet => 3,
+    }
+}
+
+fn input_cause(input: Input) -> u64 {
+    match input {
+        Input::Open => 0,
+        Input::Ended => 0,
+        Input::QuitFound => 1,
+    }
+}
+
+// The Quit byte's place under cause 1, or the first replaced byte under Convert, if it is gone through.
+fn recorded_place(s: Session, cause: u64) -> Place {
+    if cause == 1 {
+        return Place::At(s.bytes + ((s.end - s.next) as u64));
+    }
+    let c = s.settings;
+    let binary = c.binary;
+    let place = s.replaced;
+    match binary {
+        Binary::Ignore => Place::Nowhere,
+        Binary::Quit(_) => Place::Nowhere,
+        Binary::Convert(_) => gone_through(place, s.bytes),
+    }
+}
+
+fn gone_through(place: Place, bytes: u64) -> Place {
+    match place {
+        Place::Nowhere => Place::Nowhere,
+        Place::At(p) => only_if(p < bytes, p),
+    }
+}
+
+fn only_if(b: bool, p: u64) -> Place {
+    if b { Place::At(p) } else { Place::Nowhere }
+}
+
+fn flag_of(place: Place) -> u64 {
+    match place {
+        Place::Nowhere => 0,
+        Place::At(_) => 1,
+    }
+}
+
+fn offset_of(place: Place) -> u64 {
+    match place {
+        Place::Nowhere => 0,
+        Place::At(p) => p,
+    }
+}

@@ -1,0 +1,80 @@
+// 01's T through a window of 6 bytes, offered whole again and again: prints the rows of P2, one a line.
+use definition::Binary;
+use definition::Limit;
+use definition::Settings;
+use searcher::Searcher;
+use session::Waiting;
+
+fn main() {
+    let settings = Settings {
+        before: 1,
+        after: 0,
+        invert: false,
+        passthru: false,
+        stop: false,
+        limit: Limit::Unlimited,
+        terminator: b'\n',
+        binary: Binary::Ignore,
+    };
+    let opened = Searcher::open(settings, 6);
+    search(opened.searcher, b"a\nb\nc\nd\ne\n");
+}
+
+// Offers what is left of the text, and answers every line that waits.
+fn search(searcher: Searcher, text: &[u8]) {
+    let mut window = [0u8; 6];
+    let mut s = searcher;
+    let mut at = 0;
+    while at < text.len() {
+        let offered = s.offer(&mut window, &text[at..]);
+        s = answer_all(offered.searcher, &window);
+        at += offered.taken;
+        if offered.taken == 0 {
+            return;
+        }
+    }
+}
+
+// The answer is yes at b and e.
+fn answer_all(searcher: Searcher, window: &[u8]) -> Searcher {
+    let mut table = [0u64; 12];
+    let mut s = searcher;
+    let mut k = 0;
+    while k < window.len() {
+        let hit = is_wanted(s.line(window));
+        let answered = s.answer(window, &mut table, hit);
+        print_rows(&table, answered.rows);
+        s = answered.searcher;
+        k += 1;
+    }
+    s
+}
+
+fn is_wanted(line: &[u8]) -> bool {
+    if line.len() == 1 {
+        (line[0] == b'b') | (line[0] == b'e')
+    } else {
+        false
+    }
+}
+
+fn print_rows(table: &[u64], rows: usize) {
+    let mut i = 0;
+    while (i < rows) & (i < 3) {
+        print_row(table, 4 * i);
+        i += 1;
+    }
+}
+
+fn print_row(table: &[u64], at: usize) {
+    let mut text = [b' '; 8];
+    let mut k = 0;
+    while k < 4 {
+        if at + k < table.len() {
+            text[2 * k] = b'0' + ((table[at + k] % 10) as u8);
+        }
+        k += 1;
+    }
+    text[7] = b'\n';
+    io::write_all(1, &text);
+}
