@@ -9,7 +9,7 @@ use native.Mathlib.Numerals.{add-one}
 use native.Mathlib.Omega.{arith}
 use lib.Dec.{ltb}
 use lib.ListN.{length, take, drop, getD, length-append, length-drop, length-take, take-append-drop}
-use lib.Seq.{drop-cons, drop-drop, drop-length, take-suc, take-take}
+use lib.Seq.{drop-cons, drop-drop, drop-length, take-all, take-suc, take-take}
 use borrow.Author.Tests.{eq-eqb, ne-eqb, ltb-false, ltb-true}
 use Rattle.definition.specs.Definition.{lastOf}
 use Rattle.definition.specs.Text.{firstLength, firstPlace, lines, upTo}
@@ -167,6 +167,14 @@ last-back t n i xs h k j =
     rw e at (last-step t (take i xs) (omega arith) (n - 1)) ∙ ap (lastStart (n - 1) t) (take-take p i xs inside)
 
 -- # How many lines
+
+-- the line at a place, as a step from there gives it
+pub step-at : (t i r : ℕ) (xs : List ℕ) → i < length xs → r ≡ firstLength t (take (length xs - i) (drop i xs))
+    → (r ≡ firstLength t (drop i xs)) × (0 < r) × (i + r ≤ length xs)
+step-at t i r xs h e =
+    let size = length-drop i xs in
+    let first : r ≡ firstLength t (drop i xs) = rw (take-all (length xs - i) (drop i xs) (omega arith)) at e in
+    (first, omega (arith, first), omega (arith, first))
 
 pub count-step : (t i : ℕ) (xs : List ℕ) → i < length xs
     → length (lines t (drop i xs)) ≡ length (lines t (drop (i + firstLength t (drop i xs)) xs)) + 1
