@@ -8,14 +8,15 @@ use native.Mathlib.Omega.{arith}
 use lib.Dec.{ltb, leb, eqb}
 use lib.ListN.{length}
 use borrow.Author.Tests.{eq-eqb, ne-eqb, le-leb, lt-leb, le-ltb, lt-ltb, leb-true, ltb-true}
-use Rattle.definition.specs.Bounds.{allowed, maxInput, maxWindow}
+use Rattle.definition.specs.declared.Settings.{Settings}
+use Rattle.definition.specs.Bounds.{allowed, contextual, limitInRange, maxContext, maxInput, maxWindow}
 use Rattle.definition.specs.Definition.{keptLines}
 use Rattle.definition.specs.Text.{firstLength, firstPlace, part}
 use Rattle.lines.specs.declared.Found.the-variants.{At, Nothing}
 use Rattle.lines.specs.Lines.{found, lastStart}
 use Rattle.lines.proofs.Laws.{found-at, found-nothing}
 use Rattle.session.specs.declared.Session.{Session}
-use Rattle.session.specs.Held.{isOn, isOpen, keptBytes, keptFrom, lineBytes, lineLength, sinceLines, unanswered, waits}
+use Rattle.session.specs.Held.{heldBytes, isOn, isOpen, keptBytes, keptFrom, lineBytes, lineLength, sinceLines, unanswered, waits}
 use Rattle.session.specs.Sound.{Agree, agrees, takenBytes, withinLimit}
 use Rattle.session.proofs.Agree.{All, agree-of, agrees-of}
 use Rattle.session.proofs.Parts.{kept-le, part-length}
@@ -152,7 +153,39 @@ line-rest s w h k =
     by true n = refl
     by false n = elim (decLt 0 n) [ yes j ↦ rw (ne-eqb n 0 (λ e. omega arith), lt-ltb 0 n j) | no j ↦ rw (eq-eqb n 0 (omega arith), le-ltb 0 n (omega arith)) ]
 
+-- what the answer says
+pub waits-line : (s : Session) (w : List ℕ) (n : ℕ) → Line n ≡ nextLine s w → (waits s w ≡ true) × (n ≡ lineLength s w)
+unfolding nextLine
+waits-line s w n h = go (waits s w) h
+  where
+    go : (b : Bool) → Line n ≡ cond b (Line (lineLength s w)) NoLine → (b ≡ true) × (n ≡ lineLength s w)
+    go true h = (refl, cc)
+    go false h =
+        let z : _≡_ {A = ℕ} 0 1 = cc in
+        absurd (omega arith)
+
+pub waits-none : (s : Session) (w : List ℕ) → NoLine ≡ nextLine s w → waits s w ≡ false
+unfolding nextLine
+waits-none s w h = go (waits s w) h
+  where
+    go : (b : Bool) → NoLine ≡ cond b (Line (lineLength s w)) NoLine → b ≡ false
+    go true h =
+        let z : _≡_ {A = ℕ} 0 1 = cc in
+        absurd (omega arith)
+    go false h = refl
+
 -- # The kept part
+
+-- what is held from there on
+pub held-from : (s : Session) (w : List ℕ) → s .next ≤ s .end → s .end - keptFrom s w ≡ heldBytes s w
+unfolding keptFrom heldBytes
+held-from s w h = omega (arith, kept-le s w)
+
+pub before-allowed : (c : Settings) → allowed c ≡ true → c .before ≤ maxContext
+unfolding allowed
+before-allowed c h =
+    leb-true (c .before) maxContext
+    (chain-all (leb (c .before) maxContext) (leb (c .after) maxContext ∷ (limitInRange (c .limit) ∷ (not (c .passthru && contextual c) ∷ []))) h .0)
 
 -- found backwards from the first byte not answered
 pub kept-back : (s : Session) (w : List ℕ) → s .floor ≤ s .next → s .next ≤ length w
