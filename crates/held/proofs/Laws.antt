@@ -2,7 +2,7 @@
 use Prim.Native.Nat.{ℕ, _+_, _-_, _≤_, _<_}
 use mathlib.Core.Path.{_≡_, refl, sym, _∙_}
 use mathlib.Core.Bool.{Bool, true, false, cond, not, _&&_, _||_, and-eq-true-iff}
-use mathlib.Core.List.{List, [], _∷_}
+use mathlib.Core.List.{List, [], _∷_, flatten}
 use native.Mathlib.Decide.{decLe, decLt}
 use native.Mathlib.Omega.{arith}
 use lib.Dec.{ltb, leb, eqb}
@@ -10,14 +10,15 @@ use lib.ListN.{length}
 use borrow.Author.Tests.{eq-eqb, ne-eqb, le-leb, lt-leb, le-ltb, lt-ltb, leb-true, ltb-true}
 use Rattle.definition.specs.declared.Settings.{Settings}
 use Rattle.definition.specs.Bounds.{allowed, contextual, limitInRange, maxContext, maxInput, maxWindow}
-use Rattle.definition.specs.Definition.{keptLines}
+use Rattle.definition.specs.Definition.{keptLines, lastOf}
 use Rattle.definition.specs.Text.{firstLength, firstPlace, part}
+use Rattle.definition.proofs.Terminator.{flatten-last}
 use Rattle.lines.specs.declared.Found.the-variants.{At, Nothing}
 use Rattle.lines.specs.Lines.{found, lastStart}
 use Rattle.lines.proofs.Laws.{found-at, found-nothing}
 use Rattle.session.specs.declared.Session.{Session}
 use Rattle.session.specs.Held.{heldBytes, isOn, isOpen, keptBytes, keptFrom, lineBytes, lineLength, sinceLines, unanswered, waits}
-use Rattle.session.specs.Sound.{Agree, agrees, takenBytes, withinLimit}
+use Rattle.session.specs.Sound.{Agree, agrees, sound, takenBytes, withinLimit}
 use Rattle.session.proofs.Agree.{All, agree-of, agrees-of}
 use Rattle.session.proofs.Parts.{kept-le, part-length}
 use Rattle.held.specs.declared.NextLine.the-variants.{Line, NoLine}
@@ -126,6 +127,11 @@ pub agrees-parts : (s : Session) → agrees s ≡ (ordered s && (allowed (s .set
 agrees-parts s =
     same-truth (agrees s) (ordered s && (allowed (s .settings) && counted s)) (λ h. parts-of s (agree-of s h)) (λ h. agrees-of s (agree-from s h))
 
+-- A session that agrees, with its window.
+pub sound-of : (s : Session) (n : ℕ) → Agree s → n ≡ s .window → sound s n ≡ true
+unfolding sound
+sound-of s n a e = and-eq-true-iff (agrees s) (eqb n (s .window)) .1 (agrees-of s a, eq-eqb n (s .window) e)
+
 -- # The waiting line
 
 pub line-none : (s : Session) (w : List ℕ) → isOn (s .going) ≡ false → NoLine ≡ nextLine s w
@@ -187,8 +193,19 @@ before-allowed c h =
     leb-true (c .before) maxContext
     (chain-all (leb (c .before) maxContext) (leb (c .after) maxContext ∷ (limitInRange (c .limit) ∷ (not (c .passthru && contextual c) ∷ []))) h .0)
 
--- found backwards from the first byte not answered
+-- the last n of the lines since the last line with a row, in bytes
+pub since-le : (n : ℕ) (s : Session) (w : List ℕ) → s .floor ≤ s .next → s .next ≤ length w → length (flatten (lastOf n (sinceLines s w))) ≤ s .next - s .floor
+unfolding sinceLines
+since-le n s w h k =
+    omega (arith, flatten-last n (s .settings .terminator) (part (s .floor) (s .next) w) .0, part-length (s .floor) (s .next) w h k)
+
+-- where they start, found backwards from the first byte not answered
+pub since-back : (n : ℕ) (s : Session) (w : List ℕ) → s .floor ≤ s .next → s .next ≤ length w
+    → s .floor + lastStart n (s .settings .terminator) (part (s .floor) (s .next) w) ≡ s .next - length (flatten (lastOf n (sinceLines s w)))
+unfolding sinceLines lastStart
+since-back n s w h k = omega (arith, part-length (s .floor) (s .next) w h k, since-le n s w h k)
+
 pub kept-back : (s : Session) (w : List ℕ) → s .floor ≤ s .next → s .next ≤ length w
     → s .floor + lastStart (keptLines (s .settings)) (s .settings .terminator) (part (s .floor) (s .next) w) ≡ keptFrom s w
-unfolding keptFrom keptBytes sinceLines lastStart
-kept-back s w h k = omega (arith, part-length (s .floor) (s .next) w h k, kept-le s w)
+unfolding keptFrom keptBytes
+kept-back s w h k = since-back (keptLines (s .settings)) s w h k

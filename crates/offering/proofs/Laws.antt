@@ -9,7 +9,7 @@ use native.Mathlib.Omega.{arith}
 use lib.Dec.{ltb, leb, eqb}
 use lib.ListN.{length, take, length-take}
 use lib.Seq.{length-take-le}
-use borrow.Author.Tests.{eq-eqb, ne-eqb, eqb-true, eqb-false, not-true}
+use borrow.Author.Tests.{ne-eqb, eqb-true, eqb-false, not-true}
 use Rattle.definition.specs.declared.Binary.{Binary}
 use Rattle.definition.specs.declared.Binary.the-variants.{Ignore, Quit, Convert}
 use Rattle.definition.specs.Bounds.{maxInput}
@@ -22,12 +22,11 @@ use Rattle.session.specs.declared.Offering.the-variants.{OfferRefused, Idle, Ta
 use Rattle.session.specs.declared.Session.{Session}
 use Rattle.session.specs.Calls.{beforeQuit, fitting, idle, offering, quitFront, quitPlace, storedWindow, taking}
 use Rattle.session.specs.Held.{heldBytes, keptFrom, waits}
-use Rattle.session.specs.Sound.{agrees, sound, takenBytes}
-use Rattle.session.proofs.Agree.{agrees-of}
+use Rattle.session.specs.Sound.{sound, takenBytes}
 use Rattle.session.proofs.Cases.{OfferCase, full, idling, offer-is, quits, sized, takes, unsound}
 use Rattle.session.proofs.Keeps.{Taken, TakenIf, offer-taken}
 use Rattle.session.proofs.Taking.{quit-le}
-use Rattle.held.proofs.Laws.{held-from}
+use Rattle.held.proofs.Laws.{held-from, sound-of}
 use Rattle.offering.specs.declared.Reach.{Reach}
 use Rattle.offering.specs.declared.Plan.the-variants.{Refuse, Nothing, Store}
 use Rattle.offering.specs.Plan.{Storing, Sounded, planOf, planned, reached}
@@ -124,8 +123,7 @@ module _ (s : Session) (w piece : List ℕ) (from : ℕ) (so : Sounded s w from)
   reach = reached (s .settings .binary) piece (min free left)
 
   sounds : sound s (length w) ≡ true
-  unfolding sound
-  sounds = and-eq-true-iff (agrees s) (eqb (length w) (s .window)) .1 (agrees-of s (so .agree), eq-eqb (length w) (s .window) (so .same))
+  sounds = sound-of s (length w) (so .agree) (so .same)
 
   free-is : free ≡ s .window - heldBytes s w
   free-is = ap (λ k. s .window - (s .end - k)) (so .from-is) ∙ ap (λ k. s .window - k) (held-from s w (so .agree .next-end))
