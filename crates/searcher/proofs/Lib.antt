@@ -1,0 +1,2 @@
+-- What is proved of the door.
+pub mod Laws
