@@ -1,5 +1,5 @@
 -- Laws of the door: what each way through a call gives.
-use Prim.Native.Nat.{ℕ, _+_, _-_, _≤_, _<_}
+use Prim.Native.Nat.{ℕ, _+_, _-_, _*_, _≤_}
 use mathlib.Core.Path.{_≡_, refl, sym, _∙_, ap}
 use mathlib.Core.Bool.{Bool, true, false, cond, not, _&&_, _||_}
 use mathlib.Core.List.{List, []}
@@ -14,15 +14,22 @@ use Rattle.definition.specs.declared.Place.the-variants.{Nowhere, At}
 use Rattle.definition.specs.declared.Settings.{Settings}
 use Rattle.definition.specs.Bounds.{allowed, maxWindow}
 use Rattle.definition.specs.Definition.{endWith}
+use Rattle.definition.specs.Rows.{rowSize}
 use Rattle.definition.specs.Text.{firstLength, firstPlace, part}
 use Rattle.definition.proofs.Terminator.{first-le}
 use Rattle.lines.specs.Lines.{withoutTerminator}
 use Rattle.lines.proofs.Laws.{without-line}
+use Rattle.session.specs.declared.Answering.{Answering}
+use Rattle.session.specs.declared.Answering.the-variants.{AnswerRefused, Give}
+use Rattle.session.specs.declared.Offering.{Offering}
+use Rattle.session.specs.declared.Offering.the-variants.{OfferRefused, Idle, Take}
 use Rattle.session.specs.declared.Session.{Session}
 use Rattle.session.specs.declared.Waiting.the-variants.{LineWaits, NoneWaits, WaitingRefused}
-use Rattle.session.specs.Calls.{fresh, opened, opening, recordOf, recorded, recording, remains, shownLine, shownWhere, told, toldSession, waiting}
+use Rattle.session.specs.Calls.{answerAnswer, answered, answering, beforeQuit, fresh, offerAnswer, offered, offering, opened, opening, recordOf, recorded, recording, remains, shownLine, shownWhere, told, toldSession, waiting}
 use Rattle.session.specs.Held.{lineBytes, lineLength, unanswered, waits}
 use Rattle.session.specs.Sound.{agrees, closed, sound}
+use Rattle.session.proofs.Keeps.{GivenIf, TakenIf, answer-given, offer-taken}
+use Rattle.session.proofs.Taking.{quit-le}
 use Rattle.searcher.specs.Door.{closedBy, doorOpened, doorTold, placeFlag, placeOffset, searcher, unrecordedBy}
 
 -- # Opening
@@ -129,3 +136,28 @@ pub end-with : (bytes count matches cause : ℕ) (place : Place)
     ≡ endWith bytes count matches cause place
 end-with bytes count matches cause Nowhere = refl
 end-with bytes count matches cause (At p) = refl
+
+-- # What a caller leans on
+
+quit-most : (s : Session) (piece : List ℕ) → beforeQuit s piece ≤ length piece
+unfolding beforeQuit
+quit-most s piece = quit-le (s .settings .binary) piece
+
+-- no more is taken than was offered
+pub taken-le : (s : Session) (w piece : List ℕ) → offered s w piece .taken ≤ length piece
+unfolding offered
+taken-le s w piece = go (offering s w piece) (offer-taken s w piece)
+  where
+    go : (o : Offering) → TakenIf s w piece o → offerAnswer o s w piece .taken ≤ length piece
+    go (OfferRefused k) t = omega arith
+    go Idle t = omega arith
+    go (Take n quit) t = omega (arith, quit-most s piece, t .room .quit)
+
+-- the rows given lie in the table
+pub rows-le : (s : Session) (w table : List ℕ) (hit : Bool) → rowSize * answered s w table hit .rows ≤ length table
+unfolding answered
+rows-le s w table hit = go (answering s w (length table) hit) (answer-given s w (length table) hit)
+  where
+    go : (o : Answering) → GivenIf s w (length table) hit o → rowSize * answerAnswer o s w hit .rows ≤ length table
+    go (AnswerRefused k) t = omega arith
+    go Give t = t .1
