@@ -20,13 +20,13 @@ fn main() {
     search(opened.searcher, b"a\nb\nc\nd\ne\n");
 }
 
-// Offers what is left of the text, and answers every line that waits.
+// Offers what is left of the text, and answers every line that waits; ten turns are more than enough.
 fn search(searcher: Searcher, text: &[u8]) {
     let mut window = [0u8; 6];
     let mut s = searcher;
     let mut at = 0;
-    let mut turns = 0;
-    while (at < text.len()) & (turns < 10) {
+    let mut turns: usize = 0;
+    while turns < 10 {
         let offered = s.offer(&mut window, &text[at..]);
         let next = offered.searcher;
         s = answer_all(next, &window);
@@ -59,8 +59,11 @@ fn is_wanted(line: &[u8]) -> bool {
 }
 
 fn print_rows(table: &[u64; 12], rows: usize) {
+    if 3 < rows {
+        return;
+    }
     let mut i = 0;
-    while (i < rows) & (i < 3) {
+    while i < rows {
         print_row(table, i);
         i += 1;
     }

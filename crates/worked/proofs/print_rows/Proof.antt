@@ -1,3 +1,6 @@
+-- At most three rows are in the table.
+use Prim.Native.Nat.{_-_, _≤_}
+use native.Mathlib.Omega.{arith}
 use Rattle.worked.proofs.print_rows.Statement.{statement}
 use Rattle.worked.proofs.print_rows.Tie as tie
 use Rattle.worked.proofs.print_rows.Reads as reads
@@ -5,36 +8,49 @@ use Rattle.worked.proofs.print_rows.Lts as lts
 use Rattle.worked.proofs.print_row.Reads as print-row-reads
 
 abbrev Inv-loop : tie.InvT-loop
-Inv-loop table rows i₀ i = ?
+Inv-loop table rows i₀ i = (i ≤ rows) × (rows ≤ 3)
 
 abbrev μ-loop : tie.MeasureT-loop
-μ-loop table rows i₀ i = ?
+μ-loop table rows i₀ i = rows - i
 
--- src/main.rt:63:5
+-- src/main.rt:63:9
+returns : tie.Need-returns Inv-loop μ-loop
+returns c = tt
+
+-- src/main.rt:66:5
 loop-holds : tie.Need-loop-holds Inv-loop μ-loop
-loop-holds c = ?
+loop-holds c = omega arith
 
--- src/main.rt:64:9
+-- src/main.rt:67:9
 print-row-requires : tie.Need-print-row-requires Inv-loop μ-loop
-print-row-requires c κs = ?
+print-row-requires c κs = omega arith
 
--- src/main.rt:65:9
+-- src/main.rt:68:9
 add-i : tie.Need-add-i Inv-loop μ-loop
-add-i c = ?
+add-i c = omega arith
 
--- src/main.rt:63:5
+-- src/main.rt:66:5
 loop-less : tie.Need-loop-less Inv-loop μ-loop
-loop-less c = ?
+loop-less c = omega arith
 
--- src/main.rt:63:5
+-- src/main.rt:66:5
 loop-again : tie.Need-loop-again Inv-loop μ-loop
-loop-again c = ?
+loop-again c = omega arith
 
 -- src/main.rt:61:1
-returns : tie.Need-returns Inv-loop μ-loop
-returns c = ?
+returns-2 : tie.Need-returns-2 Inv-loop μ-loop
+returns-2 c = tt
 
 pub print-rows-spec : {M : Type 1} → statement M
 print-rows-spec =
     tie.close
-    (tie.spec Inv-loop μ-loop loop-holds print-row-requires add-i loop-less loop-again returns)
+    (tie.spec
+    Inv-loop
+    μ-loop
+    returns
+    loop-holds
+    print-row-requires
+    add-i
+    loop-less
+    loop-again
+    returns-2)
