@@ -6,7 +6,7 @@ use mathlib.Core.List.{List, [], _∷_, _++_, append-assoc, append-nil, flatten,
 use native.Mathlib.Decide.{decLt}
 use native.Mathlib.Omega.{arith}
 use lib.Dec.{ltb}
-use lib.ListN.{length, take, drop, length-append, length-map, length-take, take-append-drop}
+use lib.ListN.{length, take, drop, length-append, length-map, length-take}
 use lib.Seq.{length-take-le}
 use borrow.Author.Tests.{le-ltb, lt-ltb}
 use Rattle.definition.specs.declared.Fate.{Fate}
@@ -15,7 +15,7 @@ use Rattle.definition.specs.declared.Row.{Row}
 use Rattle.definition.specs.Bounds.{contextual}
 use Rattle.definition.specs.Definition.{lastOf}
 use Rattle.definition.specs.Rows.{afterKind, beforeKind, break, flat, matchKind, otherKind, placed, row, rowSize}
-use Rattle.definition.specs.State.{breaks, fateOf, nextLine, rowsFor, stateNext}
+use Rattle.definition.specs.State.{breaks, fateOf, nextLine, stateNext}
 use Rattle.definition.specs.Text.{firstLength, lines, part, putAt}
 use Rattle.definition.proofs.Lists.{length-putAt, putAt-append, putAt-none}
 use Rattle.definition.proofs.Terminator.{flatten-last, lines-drop, lines-head, lines-whole}
@@ -24,7 +24,7 @@ use Rattle.rows.specs.Table.{beforeNumbers}
 use Rattle.session.specs.declared.Answering.{Answering}
 use Rattle.session.specs.declared.Answering.the-variants.{AnswerRefused, Give}
 use Rattle.session.specs.declared.Session.{Session}
-use Rattle.session.specs.Calls.{answerAnswer, answerRows, answerSession, answerTable, answered, answeredTable, answering, belowOne, beforeRows, getsRow, putRows, stepped}
+use Rattle.session.specs.Calls.{answerAnswer, answerRows, answerSession, answerTable, answered, answeredTable, answering, belowOne, beforeRows, putRows, stepped}
 use Rattle.session.specs.Held.{backFrom, lineLength, shown, sinceLines, waits}
 use Rattle.session.specs.Sound.{sound}
 use Rattle.session.proofs.Cases.{AnswerCase, answer-is}

@@ -1,14 +1,13 @@
 -- An answer by what becomes of the line: what is decided, the session after it, and every number of the table.
 use Prim.Native.Nat.{ℕ, _+_, _-_, _*_, _≤_}
-use mathlib.Core.Bool.{Bool, true, cond, not, _&&_}
-use mathlib.Core.List.{List, _++_, flatten}
+use mathlib.Core.Bool.{true, cond, not, _&&_}
+use mathlib.Core.List.{List, flatten}
 use mathlib.Core.Path.{_≡_}
 use lib.Dec.{ltb}
 use lib.ListN.{length}
 use Rattle.definition.specs.declared.Fate.{Fate}
-use Rattle.definition.specs.declared.Fate.the-variants.{Match, After, Other, NoRow}
 use Rattle.definition.specs.declared.Row.{Row}
-use Rattle.definition.specs.Bounds.{contextual, maxInput}
+use Rattle.definition.specs.Bounds.{contextual}
 use Rattle.definition.specs.Definition.{afterLeftNext, goingNext, isMatch, lastOf, matchesNext}
 use Rattle.definition.specs.Rows.{break, flat, matchKind, rowSize}
 use Rattle.definition.specs.State.{givenNext, nextLine, rowsFor}

@@ -1,8 +1,7 @@
 -- The waiting line as one answer, and the list of contradictions in the two parts in which the code goes through it.
 use Prim.Native.Nat.{ℕ, _-_, _≤_}
-use mathlib.Core.Bool.{Bool, true, cond, _&&_, _||_}
+use mathlib.Core.Bool.{Bool, cond, _&&_, _||_}
 use mathlib.Core.List.{List}
-use mathlib.Core.Path.{_≡_}
 use lib.Dec.{ltb, leb, eqb}
 use Rattle.definition.specs.Bounds.{maxInput, maxWindow}
 use Rattle.session.specs.declared.Input.{Input}

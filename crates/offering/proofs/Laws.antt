@@ -6,7 +6,7 @@ use mathlib.Core.Bool.{Bool, true, false, cond, not, _&&_, and-eq-true-iff, fals
 use mathlib.Core.List.{List, [], _∷_}
 use native.Mathlib.Decide.{decLe, decLt}
 use native.Mathlib.Omega.{arith}
-use lib.Dec.{ltb, leb, eqb}
+use lib.Dec.{ltb, eqb}
 use lib.ListN.{length, take, length-take}
 use lib.Seq.{length-take-le}
 use borrow.Author.Tests.{ne-eqb, eqb-true, eqb-false, not-true}
@@ -23,7 +23,7 @@ use Rattle.session.specs.declared.Session.{Session}
 use Rattle.session.specs.Calls.{beforeQuit, fitting, idle, offering, quitFront, quitPlace, storedWindow, taking}
 use Rattle.session.specs.Held.{heldBytes, keptFrom, waits}
 use Rattle.session.specs.Sound.{sound, takenBytes}
-use Rattle.session.proofs.Cases.{OfferCase, full, idling, offer-is, quits, sized, takes, unsound}
+use Rattle.session.proofs.Cases.{OfferCase, full, offer-is, quits, sized, takes}
 use Rattle.session.proofs.Keeps.{Taken, TakenIf, offer-taken}
 use Rattle.session.proofs.Taking.{quit-le}
 use Rattle.held.proofs.Laws.{held-from, sound-of}

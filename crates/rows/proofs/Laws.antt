@@ -1,12 +1,12 @@
 -- Laws of the before rows: each line's row, then those of the lines after it.
 use Prim.Native.Nat.{ℕ, _+_, _*_, _≤_, _<_}
 use mathlib.Core.Path.{_≡_, refl, sym, _∙_, ap}
-use mathlib.Core.List.{List, [], _∷_, _++_, flatten, map}
+use mathlib.Core.List.{List, _++_, flatten}
 use native.Mathlib.Omega.{arith}
 use lib.ListN.{length, drop, drop-of-length-le, length-drop}
 use lib.Seq.{drop-drop, length-take-le}
 use Rattle.definition.specs.declared.Row.{Row}
-use Rattle.definition.specs.Rows.{beforeKind, flat, placed, row, rowSize}
+use Rattle.definition.specs.Rows.{beforeKind, flat, placed, rowSize}
 use Rattle.definition.specs.Text.{firstLength, lines, putAt}
 use Rattle.definition.proofs.Lists.{length-putAt, putAt-append, putAt-none}
 use Rattle.definition.proofs.Terminator.{lines-head}

@@ -1,7 +1,7 @@
 -- Laws of the door: what each way through a call gives.
 use Prim.Native.Nat.{ℕ, _+_, _-_, _*_, _≤_}
 use mathlib.Core.Path.{_≡_, refl, sym, _∙_, ap}
-use mathlib.Core.Bool.{Bool, true, false, cond, not, _&&_, _||_}
+use mathlib.Core.Bool.{Bool, true, false, not, _&&_, _||_}
 use mathlib.Core.List.{List, []}
 use native.Mathlib.Decide.{decLe, decLt}
 use native.Mathlib.Omega.{arith}
@@ -27,7 +27,7 @@ use Rattle.session.specs.declared.Session.{Session}
 use Rattle.session.specs.declared.Waiting.the-variants.{LineWaits, NoneWaits, WaitingRefused}
 use Rattle.session.specs.Calls.{answerAnswer, answered, answering, beforeQuit, fresh, offerAnswer, offered, offering, opened, opening, recordOf, recorded, recording, remains, shownLine, shownWhere, told, toldSession, waiting}
 use Rattle.session.specs.Held.{lineBytes, lineLength, unanswered, waits}
-use Rattle.session.specs.Sound.{agrees, closed, sound}
+use Rattle.session.specs.Sound.{agrees, sound}
 use Rattle.session.proofs.Keeps.{GivenIf, TakenIf, answer-given, offer-taken}
 use Rattle.session.proofs.Taking.{quit-le}
 use Rattle.searcher.specs.Door.{closedBy, doorOpened, doorTold, placeFlag, placeOffset, searcher, unrecordedBy}

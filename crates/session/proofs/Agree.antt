@@ -1,13 +1,12 @@
 -- The list of contradictions as facts, and that each call keeps them, whatever the window holds.
-use Prim.Native.Nat.{_+_, _-_, _≤_, _<_}
+use Prim.Native.Nat.{_+_, _-_}
 use mathlib.Core.Path.{_≡_, refl}
-use mathlib.Core.Bool.{Bool, true, _||_, and-eq-true-iff}
+use mathlib.Core.Bool.{Bool, true, and-eq-true-iff}
 use mathlib.Core.List.{List, [], _∷_}
-use lib.Dec.{eqb}
 use borrow.Author.Tests.{ltb-true, leb-true, lt-ltb, le-leb}
-use Rattle.definition.specs.Bounds.{allowed, maxInput, maxWindow}
+use Rattle.definition.specs.Bounds.{maxInput, maxWindow}
 use Rattle.session.specs.declared.Session.{Session}
-use Rattle.session.specs.Sound.{Agree, agrees, every, takenBytes, tests, withinLimit}
+use Rattle.session.specs.Sound.{Agree, agrees, every, takenBytes, tests}
 
 abbrev pub All : List Bool → Type 0
 All [] = Unit {0}

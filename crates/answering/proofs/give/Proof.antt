@@ -1,7 +1,6 @@
 -- By what becomes of the line.
 use mathlib.Core.Path.{_≡_, refl, sym, _∙_}
 use native.Mathlib.Omega.{arith}
-use Rattle.definition.specs.declared.Fate.{Fate}
 use Rattle.definition.specs.declared.Fate.the-variants.{Match, After, Other, NoRow}
 use Rattle.definition.specs.Rows.{afterKind, otherKind}
 use Rattle.definition.specs.State.{fateOf}
