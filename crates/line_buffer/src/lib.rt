@@ -38,7 +38,7 @@ pub fn take_in(window: &mut [u8], end: usize, piece: &[u8], binary: Binary, term
     }
 }
 
-// Apart from the converting loop, since this one becomes a plain memory copy.
+// Apart from the converting loop, since this one has nothing to test: it moves 32 bytes a turn.
 fn copy(tail: &mut [u8], piece: &[u8])
     requires { ⌜ length (now piece) ≤ length (now tail) ⌝ }
     ensures { λ _. ⌜ now (tail .exit) ≡ now (piece .entry) ++ drop (length (now (piece .entry))) (now (tail .entry)) ⌝ }
