@@ -3,7 +3,6 @@ use definition::Row;
 ghost use mathlib.Core.Path.{_≡_};
 ghost use Prim.Native.Nat.{_+_, _*_, _≤_};
 ghost use lib.ListN.{length};
-ghost use Rattle.definition.specs.Bounds.{maxInput};
 ghost use Rattle.definition.specs.Rows.{flat};
 ghost use Rattle.definition.specs.Text.{lines, putAt};
 ghost use Rattle.rows.specs.Table.{BeforeFits, beforeNumbers};
