@@ -1,0 +1,3 @@
+-- What is proved of the literal matcher.
+pub mod Stands
+pub mod Places
