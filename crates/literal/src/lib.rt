@@ -6,10 +6,43 @@
 ghost use mathlib.Core.Path.{_≡_};
 ghost use Prim.Native.Nat.{_+_, _≤_, _<_, min};
 ghost use lib.ListN.{length, drop};
+ghost use Rattle.literal.specs.Choice.{chosen};
 ghost use Rattle.literal.specs.Literal.{startsWith, stands};
 ghost use Rattle.literal.specs.Places.{Told, Fit, anyHit};
 
+mod choice;
+
+// Two places in a literal, whose bytes are looked for first.
+pub struct Pair {
+    pub first: usize,
+    pub second: usize,
+}
+
+// The pair that is likely to be fastest, to be chosen once for many lines.
+pub fn choose(literal: &[u8]) -> Pair
+    ensures { λ r. ⌜ r ≡ chosen (now (literal .entry)) ⌝ }
+{
+    let first = choice::rarest_but(literal, literal.len());
+    let second = choice::rarest_but(literal, first);
+    Pair { first, second }
+}
+
+// For a literal that is looked for in one line only: its first and its last byte cost no choice.
 pub fn contains(line: &[u8], literal: &[u8]) -> bool
+    ensures { λ r. ⌜ r ≡ stands (now (literal .entry)) (now (line .entry)) ⌝ }
+{
+    contains_by(
+        line,
+        literal,
+        Pair {
+            first: 0,
+            second: literal.len(),
+        },
+    )
+}
+
+// The same by any pair; a place past the literal's end counts as its last.
+pub fn contains_by(line: &[u8], literal: &[u8], pair: Pair) -> bool
     ensures { λ r. ⌜ r ≡ stands (now (literal .entry)) (now (line .entry)) ⌝ }
 {
     let size = literal.len();
@@ -19,7 +52,9 @@ pub fn contains(line: &[u8], literal: &[u8]) -> bool
     if line.len() < size {
         return false;
     }
-    search(line, literal, 0, size - 1, line.len() - size + 1)
+    let first = least(pair.first, size - 1);
+    let second = least(pair.second, size - 1);
+    search(line, literal, first, second, line.len() - size + 1)
 }
 
 // As many places at a time as there are.

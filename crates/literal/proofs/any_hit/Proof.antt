@@ -6,8 +6,6 @@ use native.Mathlib.Omega.{arith}
 use Rattle.literal.specs.Places.{anyHit}
 use Rattle.literal.proofs.any_hit.Statement.{statement}
 use Rattle.literal.proofs.any_hit.Tie as tie
-use Rattle.literal.proofs.any_hit.Reads as reads
-use Rattle.literal.proofs.any_hit.Lts as lts
 
 abbrev Inv-loop : tie.InvT-loop
 Inv-loop line literal first second at n a b p q hit₀ k₀ hit k = (k ≤ n) × (hit ≡ anyHit literal line first second at k)
@@ -15,59 +13,46 @@ Inv-loop line literal first second at n a b p q hit₀ k₀ hit k = (k ≤ n) ×
 abbrev μ-loop : tie.MeasureT-loop
 μ-loop line literal first second at n a b p q hit₀ k₀ hit k = n - k
 
--- src/lib.rt:99:13
 shared-slice-read-a : tie.Need-shared-slice-read-a Inv-loop μ-loop
 shared-slice-read-a c = c .before .pre .first-in
 
--- src/lib.rt:100:13
 shared-slice-read-b : tie.Need-shared-slice-read-b Inv-loop μ-loop
 shared-slice-read-b c = c .before .before .pre .second-in
 
--- src/lib.rt:101:13
 add-p : tie.Need-add-p Inv-loop μ-loop
 add-p c = omega arith
 
--- src/lib.rt:102:13
 add-q : tie.Need-add-q Inv-loop μ-loop
 add-q c = omega arith
 
--- src/lib.rt:105:5
 loop-holds : tie.Need-loop-holds Inv-loop μ-loop
 unfolding anyHit
 loop-holds c = (omega arith, refl)
 
--- src/lib.rt:106:28
 add-hit : tie.Need-add-hit Inv-loop μ-loop
 add-hit c = omega arith
 
--- src/lib.rt:106:23
 shared-slice-read-hit : tie.Need-shared-slice-read-hit Inv-loop μ-loop
 shared-slice-read-hit c = omega arith
 
--- src/lib.rt:106:49
 add-hit-2 : tie.Need-add-hit-2 Inv-loop μ-loop
 add-hit-2 c = omega arith
 
--- src/lib.rt:106:44
 shared-slice-read-hit-2 : tie.Need-shared-slice-read-hit-2 Inv-loop μ-loop
 shared-slice-read-hit-2 c = omega arith
 
--- src/lib.rt:107:9
 add-k : tie.Need-add-k Inv-loop μ-loop
 add-k c = omega arith
 
--- src/lib.rt:105:5
 loop-less : tie.Need-loop-less Inv-loop μ-loop
 loop-less c = omega arith
 
--- src/lib.rt:105:5
 loop-again : tie.Need-loop-again Inv-loop μ-loop
 unfolding anyHit
 loop-again c =
     let l = c .before .before .before .loop in
     (omega arith, rw (l .inv .1, add-one (l .k)))
 
--- src/lib.rt:95:1
 returns : tie.Need-returns Inv-loop μ-loop
 returns c =
     let e : c .before .loop .k ≡ c .before .before .before .before .args .n = omega arith in

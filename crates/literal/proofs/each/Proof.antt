@@ -1,15 +1,11 @@
 -- A place that the two bytes do not rule out is compared; the others are passed.
-use Prim.Native.Nat.{_≤_, _-_}
-use mathlib.Core.Path.{_≡_, sym, _∙_}
+use Prim.Native.Nat.{_-_}
+use mathlib.Core.Path.{sym, _∙_}
 use native.Mathlib.Omega.{arith}
 use Rattle.literal.proofs.Places.{Seen, miss, no-start, seen-start, seen-one, told-found, told-none}
 use Rattle.literal.proofs.Stands.{stands-at}
 use Rattle.literal.proofs.each.Statement.{statement}
 use Rattle.literal.proofs.each.Tie as tie
-use Rattle.literal.proofs.each.Reads as reads
-use Rattle.literal.proofs.each.Lts as lts
-use Rattle.literal.proofs.any_hit.Reads as any-hit-reads
-use Rattle.literal.proofs.starts_at.Reads as starts-at-reads
 
 abbrev Inv-loop : tie.InvT-loop
 Inv-loop line literal first second from to i₀ i = Seen literal line from i to
@@ -17,34 +13,27 @@ Inv-loop line literal first second from to i₀ i = Seen literal line from i to
 abbrev μ-loop : tie.MeasureT-loop
 μ-loop line literal first second from to i₀ i = to - i
 
--- src/lib.rt:81:5
 loop-holds : tie.Need-loop-holds Inv-loop μ-loop
 loop-holds c = seen-start (omega arith)
 
--- src/lib.rt:83:13
 add-i : tie.Need-add-i Inv-loop μ-loop
 add-i c = omega arith
 
--- src/lib.rt:84:12
 any-hit-requires : tie.Need-any-hit-requires Inv-loop μ-loop
 any-hit-requires c κs = omega arith
 
--- src/lib.rt:85:16
 starts-at-requires : tie.Need-starts-at-requires Inv-loop μ-loop
 starts-at-requires c κs = omega arith
 
--- src/lib.rt:86:17
 returns : tie.Need-returns Inv-loop μ-loop
 returns c =
     let l = c .before .before .before .before .before in
     let a = l .before .before .before .args in
     told-found (stands-at (a .literal .now) (a .line .now) (l .loop .i) (sym (c .before .starts-at .ensures) ∙ c .if2 .taken))
 
--- src/lib.rt:81:5
 loop-less : tie.Need-loop-less Inv-loop μ-loop
 loop-less c = omega arith
 
--- src/lib.rt:81:5
 loop-again : tie.Need-loop-again Inv-loop μ-loop
 loop-again c =
     let l = c .before .before .before .before .before in
@@ -52,18 +41,15 @@ loop-again c =
     let none = no-start (a .literal .now) (a .line .now) (l .loop .i) (sym (c .before .starts-at .ensures) ∙ c .if2 .left) in
     seen-one (l .loop .inv) (omega arith) none
 
--- src/lib.rt:81:5
 loop-less-2 : tie.Need-loop-less-2 Inv-loop μ-loop
 loop-less-2 c = omega arith
 
--- src/lib.rt:81:5
 loop-again-2 : tie.Need-loop-again-2 Inv-loop μ-loop
 loop-again-2 c =
     let l = c .before .before .before in
     let none = miss (l .loop .i) 1 (l .before .before .before .pre .0) (c .before .any-hit .ensures) (c .if1 .left) in
     seen-one (l .loop .inv) (omega arith) none
 
--- src/lib.rt:76:1
 returns-2 : tie.Need-returns-2 Inv-loop μ-loop
 returns-2 c = told-none (c .before .loop .inv) (c .loop-test .left)
 

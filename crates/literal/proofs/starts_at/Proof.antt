@@ -1,7 +1,6 @@
 -- What is left to compare decides as the whole does.
 use Prim.Native.Nat.{_+_, _≤_, _-_}
-use mathlib.Core.Path.{_≡_, refl, sym, _∙_, ap}
-use native.Mathlib.Numerals.{add-one}
+use mathlib.Core.Path.{_≡_, sym, _∙_}
 use native.Mathlib.Omega.{arith}
 use borrow.Author.Tests.{eq-eqb, ne-eqb}
 use lib.ListN.{length, drop}
@@ -9,8 +8,6 @@ use Rattle.literal.specs.Literal.{startsWith}
 use Rattle.literal.proofs.Stands.{starts-step, starts-end}
 use Rattle.literal.proofs.starts_at.Statement.{statement}
 use Rattle.literal.proofs.starts_at.Tie as tie
-use Rattle.literal.proofs.starts_at.Reads as reads
-use Rattle.literal.proofs.starts_at.Lts as lts
 
 abbrev Inv-loop : tie.InvT-loop
 Inv-loop line literal at k₀ k = (k ≤ length literal) × (startsWith literal (drop at line) ≡ startsWith (drop k literal) (drop (at + k) line))
@@ -18,47 +15,38 @@ Inv-loop line literal at k₀ k = (k ≤ length literal) × (startsWith literal 
 abbrev μ-loop : tie.MeasureT-loop
 μ-loop line literal at k₀ k = length literal - k
 
--- src/lib.rt:118:5
 loop-holds : tie.Need-loop-holds Inv-loop μ-loop
 loop-holds c =
     let e : c .args .at + 0 ≡ c .args .at = omega arith in
     (omega arith, rw e)
 
--- src/lib.rt:119:17
 add-if1 : tie.Need-add-if1 Inv-loop μ-loop
 add-if1 c = omega arith
 
--- src/lib.rt:119:12
 shared-slice-read-if1 : tie.Need-shared-slice-read-if1 Inv-loop μ-loop
 shared-slice-read-if1 c = omega arith
 
--- src/lib.rt:119:28
 shared-slice-read-if1-2 : tie.Need-shared-slice-read-if1-2 Inv-loop μ-loop
 shared-slice-read-if1-2 c = omega arith
 
--- src/lib.rt:120:13
 returns : tie.Need-returns Inv-loop μ-loop
 returns c =
     let l = c .before .before .before .before in
     let a = l .before .args in
     sym (l .loop .inv .1 ∙ starts-step (a .literal .now) (a .line .now) (a .at) (l .loop .k) (omega arith) (omega arith) ∙ rw (ne-eqb _ _ (c .if1 .taken)))
 
--- src/lib.rt:122:9
 add-k : tie.Need-add-k Inv-loop μ-loop
 add-k c = omega arith
 
--- src/lib.rt:118:5
 loop-less : tie.Need-loop-less Inv-loop μ-loop
 loop-less c = omega arith
 
--- src/lib.rt:118:5
 loop-again : tie.Need-loop-again Inv-loop μ-loop
 loop-again c =
     let l = c .before .before .before .before in
     let a = l .before .args in
     (omega arith, l .loop .inv .1 ∙ starts-step (a .literal .now) (a .line .now) (a .at) (l .loop .k) (omega arith) (omega arith) ∙ rw (eq-eqb _ _ (c .if1 .left)))
 
--- src/lib.rt:113:1
 returns-2 : tie.Need-returns-2 Inv-loop μ-loop
 returns-2 c =
     let a = c .before .before .args in
