@@ -26,7 +26,7 @@ Table =
     -- the whole line, its front, its end
     ∷ ex (97 ∷ 98 ∷ []) (97 ∷ 98 ∷ []) true
     ∷ ex (97 ∷ 98 ∷ []) (97 ∷ 98 ∷ 99 ∷ []) true
-    ∷ ex (97 ∷ 98 ∷ []) (99 ∷ 97 ∷ 98 ∷ []) true
+    ∷ ex (97 ∷ 98 ∷ []) (99 ∷ 99 ∷ 97 ∷ 98 ∷ []) true
     -- a false start that overlaps the true one
     ∷ ex (97 ∷ 97 ∷ 98 ∷ []) (97 ∷ 97 ∷ 97 ∷ 98 ∷ []) true
     -- every byte is there, in another order or with one between

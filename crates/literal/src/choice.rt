@@ -23,7 +23,7 @@ pub fn rarest_but(literal: &[u8], but: usize) -> usize
     best
 }
 
-// Spools are mostly spaces and digits, then letters as often as in English; what is not among these is rarest.
+// A guess at call records: spaces and digits first, then letters as often as in English; what is not listed is rarest.
 fn rarity_of(b: u8) -> usize
     ensures { λ r. ⌜ r ≡ placeIn b common ⌝ }
 {

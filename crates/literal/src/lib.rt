@@ -12,7 +12,8 @@ ghost use Rattle.literal.specs.Places.{Told, Fit, anyHit};
 
 mod choice;
 
-// Two places in a literal, whose bytes are looked for first.
+// Two places in a literal, whose bytes are looked for first. Laid out as in C, for callers from there.
+#[repr(C)]
 pub struct Pair {
     pub first: usize,
     pub second: usize,
