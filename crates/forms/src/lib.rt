@@ -1,5 +1,7 @@
 // How the programs' inputs are written: words that single spaces separate, decimal numbers, limits, bytes in hexadecimal.
+use definition::Binary;
 use definition::Limit;
+use definition::Settings;
 use lines::Found;
 
 // What a word says as a number.
@@ -107,6 +109,39 @@ pub fn limit(word: &[u8]) -> Bound {
     match decimal(word) {
         Number::Value(n) => Bound::Is(Limit::Most(n)),
         Number::NoNumber => Bound::NoBound,
+    }
+}
+
+// What the first line of a search asks for.
+pub enum Asked {
+    For(Settings),
+    OtherForm,
+}
+
+// `before after invert pass limit`, with a newline for terminator, no binary and no stop on a nonmatch. Whether the values
+// are in range is the opening's to say.
+pub fn first_line(line: &[u8]) -> Asked {
+    let before = decimal(word(line, 0));
+    let after = decimal(word(line, 1));
+    let invert = decimal(word(line, 2));
+    let pass = decimal(word(line, 3));
+    let numbers = is_within(before, u64::MAX) & is_within(after, u64::MAX);
+    let flags = is_within(invert, 1) & is_within(pass, 1);
+    if !(numbers & flags & (spaces(line) == 4)) {
+        return Asked::OtherForm;
+    }
+    match limit(word(line, 4)) {
+        Bound::Is(most) => Asked::For(Settings {
+            before: value(before) as usize,
+            after: value(after) as usize,
+            invert: value(invert) == 1,
+            passthru: value(pass) == 1,
+            stop: false,
+            limit: most,
+            terminator: b'\n',
+            binary: Binary::Ignore,
+        }),
+        Bound::NoBound => Asked::OtherForm,
     }
 }
 

@@ -93,7 +93,8 @@ pub fn flushed(state: State, out: &[u8]) -> State {
 }
 
 pub fn failed(state: State, out: &mut [u8], reason: i32) -> State {
-    with_pending(state, streams::tell_failed_read(out, state.pending, reason))
+    let told = streams::tell_failed_read(out, state.pending, reason);
+    flushed(with_pending(state, told), out)
 }
 
 pub fn bad(state: State, out: &mut [u8]) -> State {

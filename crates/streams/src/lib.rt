@@ -44,6 +44,26 @@ pub fn read(buffer: &mut [u8]) -> Got {
     Got::Failed(EINTR)
 }
 
+// Writes what is collected. Nothing more is written once a write has failed, so that the output has no hole.
+pub fn flush(out: &[u8], pending: Pending) -> Pending {
+    let length = least(pending.length, out.len());
+    Pending {
+        length: 0,
+        failed: fails_to_write(pending.failed, &out[..length]),
+    }
+}
+
+fn fails_to_write(failed: bool, text: &[u8]) -> bool {
+    if failed {
+        return true;
+    }
+    if write_all(text) {
+        return false;
+    }
+    tell_reason(b"failed write, errno ", os::errno());
+    true
+}
+
 // Writes all of a text to standard output, going on after a signal; whether it could.
 fn write_all(text: &[u8]) -> bool {
     let mut from = 0;
@@ -52,25 +72,15 @@ fn write_all(text: &[u8]) -> bool {
         if text.len() <= from {
             return true;
         }
+        turns -= 1;
         let put = libc::write(STDOUT_FILENO, &text[from..]);
         if 0 < put {
             from += io::count(put, &text[from..]);
         } else if os::errno() != EINTR {
             return false;
         }
-        turns -= 1;
     }
     false
-}
-
-// Writes what is collected.
-pub fn flush(out: &[u8], pending: Pending) -> Pending {
-    let length = least(pending.length, out.len());
-    let written = write_all(&out[..length]);
-    Pending {
-        length: 0,
-        failed: pending.failed | !written,
-    }
 }
 
 // Collects a text behind what is pending. Where it has no room, what is pending is written first.
@@ -82,10 +92,9 @@ pub fn put(out: &mut [u8], pending: Pending, text: &[u8]) -> Pending {
     if has_room(out, 0, text.len()) {
         return stored(out, emptied, text);
     }
-    let written = write_all(text);
     Pending {
         length: 0,
-        failed: emptied.failed | !written,
+        failed: fails_to_write(emptied.failed, text),
     }
 }
 
@@ -114,15 +123,19 @@ fn copy(tail: &mut [u8], text: &[u8]) {
     }
 }
 
-// Says that a read failed: the reason on standard error, while errno still has its text, and a line in the output.
+// Says that a read failed: the reason on standard error, and a line in the output.
 pub fn tell_failed_read(out: &mut [u8], pending: Pending, reason: i32) -> Pending {
-    let mut what = [0u8; 64];
-    let named = put(&mut what, nothing_pending(), b"failed read, errno ");
-    let numbered = put_number(&mut what, named, error_number(reason));
+    tell_reason(b"failed read, errno ", reason);
+    put(out, pending, b"failed read\n")
+}
+
+// A line on standard error: what failed, errno's number, and its text, so that errno must still stand.
+fn tell_reason(what: &[u8], reason: i32) {
+    let mut line = [0u8; 64];
+    let named = put(&mut line, nothing_pending(), what);
+    let numbered = put_number(&mut line, named, error_number(reason));
     let length = least(numbered.length, 64);
-    os::fail(&what[..length]);
-    let told = put(out, pending, b"failed read\n");
-    flush(out, told)
+    os::fail(&line[..length]);
 }
 
 fn error_number(reason: i32) -> u64 {

@@ -1,0 +1,53 @@
+// The two lines before the text: each has its newline, and at most 1,024 bytes before it.
+use lines::Found;
+use streams::Got;
+
+const LONGEST: usize = 1_024;
+
+// The place of the line's newline and how far the input is filled; or the line is cut short or too long; or the errno of a
+// read that failed.
+pub enum Head {
+    Line(usize, usize),
+    Missing,
+    Failed(i32),
+}
+
+// How a line stands that starts at the front of some bytes.
+enum Seen {
+    Whole(usize),
+    Unfinished,
+    TooLong,
+}
+
+// Reads until the line from a place on is whole. It reads no more than it needs, since the input may be slow.
+pub fn line(input: &mut [u8], from: usize, to: usize) -> Head {
+    let mut filled = to;
+    while filled < input.len() {
+        match seen(&input[from..filled]) {
+            Seen::Whole(length) => return Head::Line(from + length, filled),
+            Seen::TooLong => return Head::Missing,
+            Seen::Unfinished => {}
+        }
+        match streams::read(&mut input[filled..]) {
+            Got::Bytes(n) => filled += n,
+            Got::Ended => return Head::Missing,
+            Got::Failed(reason) => return Head::Failed(reason),
+        }
+    }
+    Head::Missing
+}
+
+fn seen(bytes: &[u8]) -> Seen {
+    match lines::find(bytes, b'\n') {
+        Found::At(length) => if length <= LONGEST {
+            Seen::Whole(length)
+        } else {
+            Seen::TooLong
+        },
+        Found::Nothing => if bytes.len() <= LONGEST {
+            Seen::Unfinished
+        } else {
+            Seen::TooLong
+        },
+    }
+}
