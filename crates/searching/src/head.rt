@@ -19,10 +19,10 @@ enum Seen {
     TooLong,
 }
 
-// Reads until the line from a place on is whole. It reads no more than it needs, since the input may be slow.
+// Reads until the line from a place on is whole, and no more often, since the input may be slow.
 pub fn line(input: &mut [u8], from: usize, to: usize) -> Head {
     let mut filled = to;
-    while filled < input.len() {
+    loop {
         match seen(&input[from..filled]) {
             Seen::Whole(length) => return Head::Line(from + length, filled),
             Seen::TooLong => return Head::Missing,
@@ -34,7 +34,6 @@ pub fn line(input: &mut [u8], from: usize, to: usize) -> Head {
             Got::Failed(reason) => return Head::Failed(reason),
         }
     }
-    Head::Missing
 }
 
 fn seen(bytes: &[u8]) -> Seen {
