@@ -108,7 +108,7 @@ fn open(state: State, line: &[u8], room: &[u8], out: &mut [u8]) -> State {
     let Asked::For(settings) = words::settings_of(line) else {
         return bad(state, out);
     };
-    let Number::Value(length) = forms::decimal(forms::word(line, 9)) else {
+    let Number::Value(length) = forms::number_at(line, 9) else {
         return bad(state, out);
     };
     let opened = Searcher::open(settings, length as usize);
@@ -147,8 +147,8 @@ fn show_line(state: State, room: &[u8], out: &mut [u8]) -> State {
 }
 
 fn answer(state: State, line: &[u8], room: &[u8], table: &mut [u64], out: &mut [u8]) -> State {
-    let hit = forms::decimal(forms::word(line, 1));
-    let Number::Value(size) = forms::decimal(forms::word(line, 2)) else {
+    let hit = forms::number_at(line, 1);
+    let Number::Value(size) = forms::number_at(line, 2) else {
         return bad(state, out);
     };
     let numbers = size as usize;
@@ -180,10 +180,10 @@ fn said_rows(state: State, out: &mut [u8], table: &[u64], rows: usize) -> State 
 }
 
 fn show_table(state: State, line: &[u8], table: &[u64], out: &mut [u8]) -> State {
-    let Number::Value(first) = forms::decimal(forms::word(line, 1)) else {
+    let Number::Value(first) = forms::number_at(line, 1) else {
         return bad(state, out);
     };
-    let Number::Value(last) = forms::decimal(forms::word(line, 2)) else {
+    let Number::Value(last) = forms::number_at(line, 2) else {
         return bad(state, out);
     };
     let from = first as usize;
@@ -233,7 +233,7 @@ fn show_window(state: State, room: &[u8], out: &mut [u8]) -> State {
 }
 
 fn poke(state: State, line: &[u8], room: &mut [u8], bytes: &mut [u8], out: &mut [u8]) -> State {
-    let Number::Value(place) = forms::decimal(forms::word(line, 1)) else {
+    let Number::Value(place) = forms::number_at(line, 1) else {
         return bad(state, out);
     };
     let Decoded::Bytes(count) = forms::hex(forms::word(line, 2), bytes) else {
@@ -251,7 +251,7 @@ fn poke(state: State, line: &[u8], room: &mut [u8], bytes: &mut [u8], out: &mut 
 }
 
 fn lend(state: State, line: &[u8], room: &[u8], out: &mut [u8]) -> State {
-    let Number::Value(length) = forms::decimal(forms::word(line, 1)) else {
+    let Number::Value(length) = forms::number_at(line, 1) else {
         return bad(state, out);
     };
     let lent = length as usize;

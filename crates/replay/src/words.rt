@@ -106,13 +106,15 @@ fn is(word: &[u8], name: &[u8]) -> bool {
 
 // The settings that the words of an opening ask for.
 pub fn settings_of(line: &[u8]) -> Asked {
-    let before = forms::decimal(forms::word(line, 1));
-    let after = forms::decimal(forms::word(line, 2));
-    let invert = forms::decimal(forms::word(line, 3));
-    let pass = forms::decimal(forms::word(line, 4));
-    let stop = forms::decimal(forms::word(line, 5));
-    let terminator = forms::decimal(forms::word(line, 7));
-    let numbers = is_number(before) & is_number(after) & forms::is_within(terminator, 255);
+    let before = forms::number_at(line, 1);
+    let after = forms::number_at(line, 2);
+    let invert = forms::number_at(line, 3);
+    let pass = forms::number_at(line, 4);
+    let stop = forms::number_at(line, 5);
+    let terminator = forms::number_at(line, 7);
+    let numbers = forms::is_number(before)
+        & forms::is_number(after)
+        & forms::is_within(terminator, 255);
     let flags = is_flag(invert) & is_flag(pass) & is_flag(stop);
     if !(numbers & flags) {
         return Asked::Other;
@@ -133,10 +135,6 @@ pub fn settings_of(line: &[u8]) -> Asked {
         terminator: byte(terminator),
         binary: binary,
     })
-}
-
-fn is_number(number: Number) -> bool {
-    forms::is_within(number, u64::MAX)
 }
 
 fn is_flag(number: Number) -> bool {
