@@ -75,14 +75,20 @@ fn give(s: Session, window: &[u8], table: &mut [u64], hit: bool, length: usize) 
 fn becomes(c: Settings, matches: u64, left: usize, hit: bool) -> Fate
     ensures { λ r. ⌜ r ≡ fate c (selected c matches hit) left ⌝ }
 {
-    let limit = c.limit;
-    if !limit_reached(limit, matches) & (hit != c.invert) {
+    if is_selected(c, matches, hit) {
         return Fate::Match;
     }
     if 0 < left {
         return Fate::After;
     }
     if c.passthru { Fate::Other } else { Fate::NoRow }
+}
+
+fn is_selected(c: Settings, matches: u64, hit: bool) -> bool
+    ensures { λ r. ⌜ r ≡ selected c matches hit ⌝ }
+{
+    let limit = c.limit;
+    !limit_reached(limit, matches) & (hit != c.invert)
 }
 
 fn limit_reached(limit: Limit, matches: u64) -> bool
@@ -123,6 +129,7 @@ fn give_line(s: Session, table: &mut [u64], length: usize, fate: Fate, kind: u64
 }
 
 fn line_row(s: Session, length: usize, kind: u64) -> Row
+    requires { ⌜ s .lines ≤ maxInput ⌝ }
     ensures { λ r. ⌜ r ≡ lineRow kind s length ⌝ }
 {
     Row {
@@ -195,7 +202,7 @@ fn put_match(
     let next = s.next;
     let part = &window[from..next];
     let at = rows::ROW * gap;
-    let offset = s.bytes - (part.len() as u64);
+    let offset = s.bytes - ((next - from) as u64);
     let number = s.lines + 1 - (before.lines as u64);
     put_break(table, gap);
     rows::put_before(table, at, part, c.terminator, offset, number);

@@ -1,12 +1,14 @@
--- Laws of lists that the definition leans on and the library lacks: the last n of a list, and lists joined.
+-- Laws of lists that the definition leans on and the library lacks: the last n of a list, lists joined, and a list
+-- written into.
 use Prim.Native.Nat.{ℕ, _+_, _-_, _≤_}
 use mathlib.Core.Path.{_≡_, refl, sym, _∙_, ap}
 use mathlib.Core.List.{List, [], _∷_, _++_, append-assoc, flatten}
 use native.Mathlib.Decide.{decLe}
 use native.Mathlib.Omega.{arith}
-use lib.ListN.{length, drop, length-append, length-drop}
-use lib.Seq.{drop-append-add, drop-append-le, drop-drop, drop-length}
+use lib.ListN.{length, take, drop, length-append, length-drop, length-take, take-append-drop}
+use lib.Seq.{drop-append-add, drop-append-le, drop-drop, drop-length, take-at}
 use Rattle.definition.specs.Definition.{lastOf}
+use Rattle.definition.specs.Text.{putAt}
 
 module _ {ℓ} {A : Type ℓ} where
   pub length-lastOf : (n : ℕ) (xs : List A) → length (lastOf n xs) ≡ length xs - (length xs - n)
@@ -47,3 +49,37 @@ pub flatten-append : (xs ys : List (List ℕ)) → flatten (xs ++ ys) ≡ flatte
 unfolding flatten
 flatten-append [] ys = refl
 flatten-append (x ∷ xs) ys = rw (flatten-append xs ys) (sym (append-assoc x (flatten xs) (flatten ys)))
+
+-- # Writing into a list
+
+pub putAt-none : (at : ℕ) (old : List ℕ) → putAt at [] old ≡ old
+unfolding putAt
+putAt-none at old =
+    let e : at + 0 ≡ at = omega arith in
+    rw e (take-append-drop at old)
+
+pub length-putAt : (at : ℕ) (new old : List ℕ) → at + length new ≤ length old → length (putAt at new old) ≡ length old
+unfolding putAt
+length-putAt at new old h =
+    omega (
+      arith,
+      length-append (take at old) (new ++ drop (at + length new) old),
+      length-append new (drop (at + length new) old),
+      length-take at old,
+      length-drop (at + length new) old,
+    )
+
+-- one after the other, or both at once
+pub putAt-append : (at : ℕ) (xs ys old : List ℕ) → at + length xs ≤ length old
+    → putAt at (xs ++ ys) old ≡ putAt (at + length xs) ys (putAt at xs old)
+unfolding putAt
+putAt-append at xs ys old h =
+    let front = take at old ++ xs in
+    let rest = drop (at + length xs) old in
+    let size : length front ≡ at + length xs = omega (arith, length-append (take at old) xs, length-take at old) in
+    let once : take at old ++ (xs ++ rest) ≡ front ++ rest = sym (append-assoc (take at old) xs rest) in
+    let far : at + length (xs ++ ys) ≡ at + length xs + length ys = omega (arith, length-append xs ys) in
+    let past : drop (at + length xs + length ys) (front ++ rest) ≡ drop (at + length xs + length ys) old =
+    ap (λ n. drop (n + length ys) (front ++ rest)) (sym size) ∙ drop-append-add front rest (length ys) ∙ drop-drop (length ys) (at + length xs) old
+    in
+    rw (once, take-at front rest (at + length xs) size, past, far) (simp append-assoc)

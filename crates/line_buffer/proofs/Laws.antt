@@ -47,6 +47,16 @@ roll-none to w =
     let e : to - 0 ≡ to = omega arith in
     rw e (take-append-drop to w)
 
+pub length-rolled : (from to : ℕ) (w : List ℕ) → from ≤ to → to ≤ length w → length (rolled from to w) ≡ length w
+unfolding rolled
+length-rolled from to w h k =
+    omega (
+      arith,
+      length-append (part from to w) (drop (to - from) w),
+      length-take-le (to - from) (drop from w) (omega (arith, length-drop from w)),
+      length-drop (to - from) w,
+    )
+
 -- a piece written into the free tail, as the whole window has it
 pub tail-put : (end n : ℕ) (bytes w : List ℕ) → length bytes ≡ n → end + n ≤ length w
     → take end w ++ ((bytes ++ drop n (take (length w - end) (drop end w))) ++ drop (length w - end) (drop end w))

@@ -7,16 +7,16 @@ use mathlib.Core.List.{List, [], _∷_, _++_, append-assoc, append-nil, flatten}
 use native.Mathlib.Decide.{decLt}
 use native.Mathlib.Numerals.{add-one}
 use native.Mathlib.Omega.{arith}
-use lib.Dec.{ltb}
+use lib.Dec.{eqb, ltb}
 use lib.ListN.{length, take, drop, getD, length-append, length-drop, length-take, take-append-drop}
-use lib.Seq.{drop-cons, drop-drop, drop-length, take-suc, take-take}
+use lib.Seq.{drop-cons, drop-drop, drop-length, take-all, take-suc, take-take}
 use borrow.Author.Tests.{eq-eqb, ne-eqb, ltb-false, ltb-true}
 use Rattle.definition.specs.Definition.{lastOf}
-use Rattle.definition.specs.Text.{firstLength, firstPlace, lines, upTo}
+use Rattle.definition.specs.Text.{firstLength, firstPlace, handed, lines, upTo}
 use Rattle.lines.specs.declared.Found.the-variants.{At, Nothing}
 use Rattle.lines.specs.Lines.{found, lastStart, withoutTerminator}
 use Rattle.definition.proofs.Lists.{flatten-append, lastOf-append}
-use Rattle.definition.proofs.Terminator.{first-le, flatten-last, lines-head, lines-only, lines-take, Whole, whole-ended, whole-none, whole-take}
+use Rattle.definition.proofs.Terminator.{first-le, flatten-last, handed-next, lines-head, lines-only, lines-take, Whole, whole-ended, whole-none, whole-take}
 
 -- # The first place of a byte, looked for from a place on
 
@@ -168,6 +168,14 @@ last-back t n i xs h k j =
 
 -- # How many lines
 
+-- the line at a place, as a step from there gives it
+pub step-at : (t i r : ℕ) (xs : List ℕ) → i < length xs → r ≡ firstLength t (take (length xs - i) (drop i xs))
+    → (r ≡ firstLength t (drop i xs)) × (0 < r) × (i + r ≤ length xs)
+step-at t i r xs h e =
+    let size = length-drop i xs in
+    let first : r ≡ firstLength t (drop i xs) = rw (take-all (length xs - i) (drop i xs) (omega arith)) at e in
+    (first, omega (arith, first), omega (arith, first))
+
 pub count-step : (t i : ℕ) (xs : List ℕ) → i < length xs
     → length (lines t (drop i xs)) ≡ length (lines t (drop (i + firstLength t (drop i xs)) xs)) + 1
 count-step t i xs h =
@@ -197,3 +205,24 @@ without-one t zero (x ∷ []) h e = rw (eq-eqb x t e)
 without-one t (suc n) (x ∷ []) h e = absurd (omega arith)
 without-one t zero (x ∷ (y ∷ ys)) h e = absurd (omega arith)
 without-one t (suc n) (x ∷ (y ∷ ys)) h e = ap (λ zs. x ∷ zs) (without-one t n (y ∷ ys) (omega arith) e)
+
+-- what the matcher is handed of bytes with a terminator at most at their end
+without-handed : (t : ℕ) (xs : List ℕ) → length xs ≤ firstPlace t xs + 1 → withoutTerminator t xs ≡ handed t xs
+unfolding withoutTerminator handed firstPlace upTo
+without-handed t [] h = refl
+without-handed t (x ∷ []) h = refl
+without-handed t (x ∷ (y ∷ ys)) h = go (eqb x t) h (without-handed t (y ∷ ys))
+  where
+    go : (b : Bool) → length (x ∷ (y ∷ ys)) ≤ length (cond b [] (x ∷ upTo t (y ∷ ys))) + 1
+        → (length (y ∷ ys) ≤ length (upTo t (y ∷ ys)) + 1 → withoutTerminator t (y ∷ ys) ≡ upTo t (y ∷ ys))
+        → x ∷ withoutTerminator t (y ∷ ys) ≡ cond b [] (x ∷ upTo t (y ∷ ys))
+    go true h ih = absurd (omega arith)
+    go false h ih = ap (λ zs. x ∷ zs) (ih (omega arith))
+
+-- The first line without its terminator is what comes before the first terminator.
+pub without-line : (t : ℕ) (xs : List ℕ) → withoutTerminator t (take (firstLength t xs) xs) ≡ take (firstPlace t xs) xs
+unfolding firstPlace handed
+without-line t xs =
+    let line = take (firstLength t xs) xs in
+    let bytes = ap length (handed-next t xs) in
+    without-handed t line (omega (arith, bytes, length-take (firstPlace t xs) xs, length-take (firstLength t xs) xs, first-le t xs)) ∙ handed-next t xs

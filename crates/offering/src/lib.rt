@@ -35,7 +35,7 @@ pub fn offer(s: Session, window: &mut [u8], piece: &[u8]) -> Offered
     ensures { λ r. ⌜ r ≡ offered s (now (window .entry)) (now (piece .entry)) ⌝ }
     ensures { λ _. ⌜ now (window .exit) ≡ offeredWindow s (now (window .entry)) (now (piece .entry)) ⌝ }
 {
-    let plan = plan(s, &window[..], piece);
+    let plan = decide(s, &window[..], piece);
     match plan {
         Plan::Refuse(k) => Offered {
             refusal: k,
@@ -58,7 +58,7 @@ pub fn offer(s: Session, window: &mut [u8], piece: &[u8]) -> Offered
     }
 }
 
-fn plan(s: Session, window: &[u8], piece: &[u8]) -> Plan
+fn decide(s: Session, window: &[u8], piece: &[u8]) -> Plan
     ensures { λ r. ⌜ r ≡ planned s (now (window .entry)) (now (piece .entry)) ⌝ }
 {
     if !held::is_sound(s, window.len()) {
@@ -67,7 +67,7 @@ fn plan(s: Session, window: &[u8], piece: &[u8]) -> Plan
     if is_idle(s, piece.len()) {
         return Plan::Nothing;
     }
-    plan_from(s, window, piece, held::kept_from(s, window))
+    decide_from(s, window, piece, held::kept_from(s, window))
 }
 
 // An empty piece, or one after the end or a stop.
@@ -80,7 +80,7 @@ fn is_idle(s: Session, piece: usize) -> bool
 }
 
 // A piece with bytes while the input is open: what of it comes in behind the part that is held from a place on.
-fn plan_from(s: Session, window: &[u8], piece: &[u8], from: usize) -> Plan
+fn decide_from(s: Session, window: &[u8], piece: &[u8], from: usize) -> Plan
     requires { ⌜ Sounded s (now window) from ⌝ }
     requires { ⌜ idle s (now piece) ≡ false ⌝ }
     ensures { λ r. ⌜ r ≡ planned s (now (window .entry)) (now (piece .entry)) ⌝ }
@@ -89,7 +89,7 @@ fn plan_from(s: Session, window: &[u8], piece: &[u8], from: usize) -> Plan
     let binary = c.binary;
     let free = s.window - (s.end - from);
     let left = definition::MAX_INPUT - (s.bytes + ((s.end - s.next) as u64));
-    let reach = reach(binary, piece, least(free, left as usize));
+    let reach = reaches(binary, piece, least(free, left as usize));
     if reach.quit & (reach.taken == 0) {
         return Plan::Store(from, 0, true);
     }
@@ -103,7 +103,7 @@ fn plan_from(s: Session, window: &[u8], piece: &[u8], from: usize) -> Plan
 }
 
 // Looks no further into the piece than one byte past what there is room for.
-fn reach(binary: Binary, piece: &[u8], room: usize) -> Reach
+fn reaches(binary: Binary, piece: &[u8], room: usize) -> Reach
     requires { ⌜ room ≤ maxWindow ⌝ }
     ensures { λ r. ⌜ r ≡ reached binary (now (piece .entry)) room ⌝ }
 {

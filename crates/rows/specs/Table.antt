@@ -9,8 +9,8 @@ use Rattle.definition.specs.Text.{lines}
 unfoldable pub beforeNumbers : ℕ → ℕ → ℕ → List ℕ → List ℕ
 beforeNumbers t offset number bytes = flatten (map flat (map (row beforeKind) (placed offset number (lines t bytes))))
 
--- the table holds the rows from a place on, and their numbers are within the input's size
+-- the table holds the rows from a place on, and their offsets and numbers are within the input's size
 pub record BeforeFits (table at bytes count offset number : ℕ) : Type 0 where
   pub room : at + rowSize * count ≤ table
   pub offsets : offset + bytes ≤ maxInput
-  pub numbers : number + count ≤ maxInput
+  pub numbers : number + count ≤ maxInput + 1

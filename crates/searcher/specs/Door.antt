@@ -1,9 +1,15 @@
 -- The answers of the session's calls with the session as a searcher: nothing else changes at the door.
+use Prim.Native.Nat.{ℕ}
+use Rattle.definition.specs.declared.Place.{Place}
+use Rattle.definition.specs.declared.Place.the-variants.{Nowhere, At}
 use Rattle.session.specs.declared.Answered.{Answered}
 use Rattle.session.specs.declared.Offered.{Offered}
 use Rattle.session.specs.declared.Opened.{Opened}
+use Rattle.session.specs.declared.Recorded.{Recorded}
 use Rattle.session.specs.declared.Session.{Session}
 use Rattle.session.specs.declared.Told.{Told}
+use Rattle.session.specs.Calls.{noRecord}
+use Rattle.session.specs.Sound.{closed}
 use Rattle.searcher.specs.declared.Answered as door-answered
 use Rattle.searcher.specs.declared.Offered as door-offered
 use Rattle.searcher.specs.declared.Opened as door-opened
@@ -24,3 +30,20 @@ doorAnswered a = record { refusal = a .refusal; rows = a .rows; searcher = searc
 
 unfoldable pub doorTold : Told → door-told.Told
 doorTold t = record { refusal = t .refusal; searcher = searcher (t .session) }
+
+-- # What the parts of the code give
+
+abbrev pub closedBy : ℕ → door-opened.Opened
+closedBy k = record { refusal = k; searcher = searcher closed }
+
+abbrev pub unrecordedBy : ℕ → Recorded
+unrecordedBy k = record { refusal = k; end = noRecord }
+
+-- a place as a flag and a number
+abbrev pub placeFlag : Place → ℕ
+placeFlag Nowhere = 0
+placeFlag (At p) = 1
+
+abbrev pub placeOffset : Place → ℕ
+placeOffset Nowhere = 0
+placeOffset (At p) = p

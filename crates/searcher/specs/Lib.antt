@@ -1,2 +1,3 @@
 -- What the public calls hand back.
 pub mod Door
+pub mod Outcomes

@@ -13,9 +13,13 @@ use session::Session;
 use session::Waiting;
 ghost use mathlib.Core.Path.{_≡_};
 ghost use mathlib.Core.Bool.{cond};
-ghost use Rattle.session.specs.Calls.{answered, answeredTable, offered, offeredWindow, opened, recorded, shownLine, told, waiting};
+ghost use Prim.Native.Nat.{_+_, _-_, _≤_};
+ghost use Rattle.definition.specs.declared.Going.the-variants.{On};
+ghost use Rattle.definition.specs.Bounds.{maxInput};
+ghost use Rattle.definition.specs.Definition.{causeOf};
+ghost use Rattle.session.specs.Calls.{answered, answeredTable, endInput, fresh, goneThrough, inputTold, isQuit, noRecord, offered, offeredWindow, opened, recordOf, recorded, recordedPlace, remains, shownLine, told, toldSession, waiting};
 ghost use Rattle.session.specs.Sound.{closed};
-ghost use Rattle.searcher.specs.Door.{doorAnswered, doorOffered, doorOpened, doorTold};
+ghost use Rattle.searcher.specs.Door.{closedBy, doorAnswered, doorOffered, doorOpened, doorTold, placeFlag, placeOffset, searcher, unrecordedBy};
 
 pub struct Searcher {
     pub session: Session,
@@ -48,11 +52,10 @@ pub struct Told {
 impl Searcher {
     // The searcher that answers 6 to everything.
     pub fn closed() -> Searcher
-        ensures { λ r. ⌜ r .session ≡ closed ⌝ }
+        ensures { λ r. ⌜ r ≡ searcher closed ⌝ }
     {
-        Searcher {
-            session: closed_session(),
-        }
+        let s = closed_session();
+        Searcher { session: s }
     }
 
     // Opens a search with a window of a length; refusals 1 and 2.
@@ -60,22 +63,16 @@ impl Searcher {
         ensures { λ r. ⌜ r ≡ doorOpened (opened settings window) ⌝ }
     {
         if !held::are_allowed(settings) {
-            return Opened {
-                refusal: 1,
-                searcher: Searcher::closed(),
-            };
+            return refused(1);
         }
         if (window == 0) | (definition::MAX_WINDOW < window) {
-            return Opened {
-                refusal: 2,
-                searcher: Searcher::closed(),
-            };
+            return refused(2);
         }
+        let s = fresh_session(settings, window);
+        let searcher = Searcher { session: s };
         Opened {
             refusal: 0,
-            searcher: Searcher {
-                session: fresh_session(settings, window),
-            },
+            searcher: searcher,
         }
     }
 
@@ -87,10 +84,11 @@ impl Searcher {
         let s = self.session;
         let o = offering::offer(s, window, piece);
         let next = o.session;
+        let searcher = Searcher { session: next };
         Offered {
             refusal: o.refusal,
             taken: o.taken,
-            searcher: Searcher { session: next },
+            searcher: searcher,
         }
     }
 
@@ -135,10 +133,11 @@ impl Searcher {
         let s = self.session;
         let a = answering::answer(s, window, table, hit);
         let next = a.session;
+        let searcher = Searcher { session: next };
         Answered {
             refusal: a.refusal,
             rows: a.rows,
-            searcher: Searcher { session: next },
+            searcher: searcher,
         }
     }
 
@@ -153,11 +152,11 @@ impl Searcher {
                 searcher: self,
             };
         }
+        let next = told_session(s);
+        let searcher = Searcher { session: next };
         Told {
             refusal: 0,
-            searcher: Searcher {
-                session: told_session(s),
-            },
+            searcher: searcher,
         }
     }
 
@@ -167,36 +166,54 @@ impl Searcher {
     {
         let s = self.session;
         if !held::agree(s) {
-            return Recorded {
-                refusal: 6,
-                end: no_record(),
-            };
+            return unrecorded(6);
         }
-        if remains(s) {
-            return Recorded {
-                refusal: 7,
-                end: no_record(),
-            };
+        if is_unfinished(s) {
+            return unrecorded(7);
         }
+        let end = record_of(s);
         Recorded {
             refusal: 0,
-            end: record_of(s),
+            end: end,
         }
     }
 }
 
-fn closed_session() -> Session {
+fn refused(refusal: u64) -> Opened
+    ensures { λ r. ⌜ r ≡ closedBy refusal ⌝ }
+{
+    let searcher = Searcher::closed();
+    Opened {
+        refusal: refusal,
+        searcher: searcher,
+    }
+}
+
+fn unrecorded(refusal: u64) -> Recorded
+    ensures { λ r. ⌜ r ≡ unrecordedBy refusal ⌝ }
+{
+    let end = no_record();
+    Recorded {
+        refusal: refusal,
+        end: end,
+    }
+}
+
+fn closed_session() -> Session
+    ensures { λ r. ⌜ r ≡ closed ⌝ }
+{
+    let settings = Settings {
+        before: 0,
+        after: 0,
+        invert: false,
+        passthru: false,
+        stop: false,
+        limit: Limit::Unlimited,
+        terminator: 0,
+        binary: Binary::Ignore,
+    };
     Session {
-        settings: Settings {
-            before: 0,
-            after: 0,
-            invert: false,
-            passthru: false,
-            stop: false,
-            limit: Limit::Unlimited,
-            terminator: 0,
-            binary: Binary::Ignore,
-        },
+        settings: settings,
         window: 0,
         floor: 0,
         next: 0,
@@ -212,7 +229,10 @@ fn closed_session() -> Session {
     }
 }
 
-fn fresh_session(settings: Settings, window: usize) -> Session {
+fn fresh_session(settings: Settings, window: usize) -> Session
+    ensures { λ r. ⌜ r ≡ fresh settings window ⌝ }
+{
+    let going = answering::going_next(settings, false, 0, 0);
     Session {
         settings: settings,
         window: window,
@@ -224,17 +244,20 @@ fn fresh_session(settings: Settings, window: usize) -> Session {
         matches: 0,
         left: 0,
         given: false,
-        going: answering::going_next(settings, false, 0, 0),
+        going: going,
         input: Input::Open,
         replaced: Place::Nowhere,
     }
 }
 
-fn told_session(s: Session) -> Session {
+fn told_session(s: Session) -> Session
+    ensures { λ r. ⌜ r ≡ toldSession s ⌝ }
+{
     let c = s.settings;
     let going = s.going;
     let input = s.input;
     let replaced = s.replaced;
+    let told = input_told(going, input);
     Session {
         settings: c,
         window: s.window,
@@ -247,12 +270,14 @@ fn told_session(s: Session) -> Session {
         left: s.left,
         given: s.given,
         going: going,
-        input: input_told(going, input),
+        input: told,
         replaced: replaced,
     }
 }
 
-fn input_told(going: Going, input: Input) -> Input {
+fn input_told(going: Going, input: Input) -> Input
+    ensures { λ r. ⌜ r ≡ inputTold going input ⌝ }
+{
     match going {
         Going::On => end_input(input),
         Going::LimitMet => input,
@@ -260,7 +285,9 @@ fn input_told(going: Going, input: Input) -> Input {
     }
 }
 
-fn end_input(input: Input) -> Input {
+fn end_input(input: Input) -> Input
+    ensures { λ r. ⌜ r ≡ endInput input ⌝ }
+{
     match input {
         Input::Open => Input::Ended,
         Input::Ended => Input::Ended,
@@ -269,13 +296,17 @@ fn end_input(input: Input) -> Input {
 }
 
 // Lines or input remain, and no stop has come.
-fn remains(s: Session) -> bool {
+fn is_unfinished(s: Session) -> bool
+    ensures { λ r. ⌜ r ≡ remains s ⌝ }
+{
     let going = s.going;
     let input = s.input;
     held::is_on(going) & (held::is_open(input) | (s.next < s.end))
 }
 
-fn no_record() -> End {
+fn no_record() -> End
+    ensures { λ r. ⌜ r ≡ noRecord ⌝ }
+{
     End {
         bytes: 0,
         lines: 0,
@@ -286,7 +317,10 @@ fn no_record() -> End {
     }
 }
 
-fn record_of(s: Session) -> End {
+fn record_of(s: Session) -> End
+    requires { ⌜ (s .next ≤ s .end) × (s .bytes + (s .end - s .next) ≤ maxInput) ⌝ }
+    ensures { λ r. ⌜ r ≡ recordOf s ⌝ }
+{
     let going = s.going;
     let input = s.input;
     let cause = cause_of(going, input);
@@ -301,7 +335,9 @@ fn record_of(s: Session) -> End {
     }
 }
 
-fn cause_of(going: Going, input: Input) -> u64 {
+fn cause_of(going: Going, input: Input) -> u64
+    ensures { λ r. ⌜ r ≡ causeOf going (isQuit input) ⌝ }
+{
     match going {
         Going::On => input_cause(input),
         Going::LimitMet => 2,
@@ -309,7 +345,9 @@ fn cause_of(going: Going, input: Input) -> u64 {
     }
 }
 
-fn input_cause(input: Input) -> u64 {
+fn input_cause(input: Input) -> u64
+    ensures { λ r. ⌜ r ≡ causeOf On (isQuit input) ⌝ }
+{
     match input {
         Input::Open => 0,
         Input::Ended => 0,
@@ -318,7 +356,10 @@ fn input_cause(input: Input) -> u64 {
 }
 
 // The Quit byte's place under cause 1, or the first replaced byte under Convert, if it is gone through.
-fn recorded_place(s: Session, cause: u64) -> Place {
+fn recorded_place(s: Session, cause: u64) -> Place
+    requires { ⌜ (s .next ≤ s .end) × (s .bytes + (s .end - s .next) ≤ maxInput) ⌝ }
+    ensures { λ r. ⌜ r ≡ recordedPlace s cause ⌝ }
+{
     if cause == 1 {
         return Place::At(s.bytes + ((s.end - s.next) as u64));
     }
@@ -332,25 +373,33 @@ fn recorded_place(s: Session, cause: u64) -> Place {
     }
 }
 
-fn gone_through(place: Place, bytes: u64) -> Place {
+fn gone_through(place: Place, bytes: u64) -> Place
+    ensures { λ r. ⌜ r ≡ goneThrough place bytes ⌝ }
+{
     match place {
         Place::Nowhere => Place::Nowhere,
         Place::At(p) => only_if(p < bytes, p),
     }
 }
 
-fn only_if(b: bool, p: u64) -> Place {
+fn only_if(b: bool, p: u64) -> Place
+    ensures { λ r. ⌜ r ≡ cond b (Place.At p) Place.Nowhere ⌝ }
+{
     if b { Place::At(p) } else { Place::Nowhere }
 }
 
-fn flag_of(place: Place) -> u64 {
+fn flag_of(place: Place) -> u64
+    ensures { λ r. ⌜ r ≡ placeFlag place ⌝ }
+{
     match place {
         Place::Nowhere => 0,
         Place::At(_) => 1,
     }
 }
 
-fn offset_of(place: Place) -> u64 {
+fn offset_of(place: Place) -> u64
+    ensures { λ r. ⌜ r ≡ placeOffset place ⌝ }
+{
     match place {
         Place::Nowhere => 0,
         Place::At(p) => p,

@@ -9,7 +9,7 @@ use Rattle.definition.specs.Bounds.{allowed, maxInput, maxWindow}
 use Rattle.session.specs.declared.Session.{Session}
 use Rattle.session.specs.Sound.{Agree, agrees, every, takenBytes, tests, withinLimit}
 
-abbrev All : List Bool → Type 0
+abbrev pub All : List Bool → Type 0
 All [] = Unit {0}
 All (b ∷ bs) = (b ≡ true) × All bs
 

@@ -6,7 +6,7 @@ use mathlib.Core.List.{List}
 use mathlib.Core.Logic.{_⊎_, inl, inr}
 use lib.Dec.{ltb, leb, eqb}
 use lib.ListN.{length}
-use borrow.Author.Tests.{eqb-false, leb-true, leb-false, ltb-true, ltb-false}
+use borrow.Author.Tests.{eqb-false, le-leb, le-ltb, leb-true, leb-false, lt-leb, lt-ltb, ltb-true, ltb-false}
 use Rattle.definition.specs.Bounds.{maxInput}
 use Rattle.definition.specs.Rows.{rowSize}
 use Rattle.session.specs.declared.Answering.{Answering}
@@ -18,6 +18,10 @@ use Rattle.session.specs.Calls.{answerAnswer, answerRows, answering, bel
 use Rattle.session.specs.Caller.{OfferServed, Plain}
 use Rattle.session.specs.Held.{heldBytes, waits}
 use Rattle.session.specs.Sound.{sound, takenBytes}
+
+and-false : (b : Bool) → (b && false) ≡ false
+and-false true = refl
+and-false false = refl
 
 module _ (s : Session) (w piece : List ℕ) where
   pub data OfferCase : Offering → Type 0 where
@@ -54,6 +58,18 @@ module _ (s : Session) (w piece : List ℕ) where
   pub offer-case : OfferCase (offering s w piece)
   unfolding offering
   offer-case = offer-first (sound s (length w)) (idle s piece) (quitFront s piece) refl refl refl
+
+  -- and each case decides
+  pub offer-is : (o : Offering) → OfferCase o → offering s w piece ≡ o
+  unfolding offering
+  offer-is _ (unsound e) = rw e
+  offer-is _ (idling e j) = rw (e, j)
+  offer-is _ (quits e j k) = rw (e, j, k)
+  offer-is _ (sized p m) = rw (p .0, p .1, p .2, le-leb maxInput (takenBytes s) m)
+  offer-is _ (full p m v f) = rw (p .0, p .1, p .2, lt-leb maxInput (takenBytes s) m, v, le-leb (s .window) (heldBytes s w) f)
+  offer-is _ (takes p m (inl v)) = rw (p .0, p .1, p .2, lt-leb maxInput (takenBytes s) m, v)
+  offer-is _ (takes p m (inr f)) =
+      rw (p .0, p .1, p .2, lt-leb maxInput (takenBytes s) m, lt-leb (s .window) (heldBytes s w) f, and-false (not (waits s w)))
 
 never : {A : Type 0} (m n : ℕ) → eqb m n ≡ false → m ≡ n → A
 never m n e z = absurd (eqb-false m n e z)
@@ -97,6 +113,15 @@ module _ (s : Session) (w : List ℕ) (table : ℕ) (hit : Bool) where
   unfolding answering
   answer-case =
       answer-first (sound s (length w)) (waits s w) (belowOne s w hit) (ltb table (rowSize * length (answerRows s w hit))) refl refl refl refl
+
+  -- and each case decides
+  pub answer-is : (o : Answering) → AnswerCase o → answering s w table hit ≡ o
+  unfolding answering
+  answer-is _ (unsound e) = rw e
+  answer-is _ (none e v) = rw (e, v)
+  answer-is _ (below e v b) = rw (e, v, b)
+  answer-is _ (few e v b m) = rw (e, v, b, lt-ltb table (rowSize * length (answerRows s w hit)) m)
+  answer-is _ (gives e v b m) = rw (e, v, b, le-ltb table (rowSize * length (answerRows s w hit)) m)
 
   -- what each number says of an answer
   pub answer-only : (o : Answering) → AnswerCase o

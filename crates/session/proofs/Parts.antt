@@ -75,7 +75,7 @@ backFrom-drop zero o n ls = refl
 backFrom-drop (suc j) o n [] = refl
 backFrom-drop (suc j) o n (l ∷ ls) = backFrom-drop j o n ls
 
-length-backFrom : (o n : ℕ) (ls : List (List ℕ)) → length (backFrom o n ls) ≡ length ls
+pub length-backFrom : (o n : ℕ) (ls : List (List ℕ)) → length (backFrom o n ls) ≡ length ls
 unfolding backFrom
 length-backFrom o n [] = refl
 length-backFrom o n (l ∷ ls) = ap suc (length-backFrom o n ls)

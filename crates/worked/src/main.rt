@@ -3,7 +3,7 @@ use definition::Binary;
 use definition::Limit;
 use definition::Settings;
 use searcher::Searcher;
-use session::Waiting;
+ghost use Prim.Native.Nat.{_<_};
 
 fn main() {
     let settings = Settings {
@@ -25,13 +25,13 @@ fn search(searcher: Searcher, text: &[u8]) {
     let mut window = [0u8; 6];
     let mut s = searcher;
     let mut at = 0;
-    while at < text.len() {
+    let mut turns = 0;
+    while (at < text.len()) & (turns < 10) {
         let offered = s.offer(&mut window, &text[at..]);
-        s = answer_all(offered.searcher, &window);
+        let next = offered.searcher;
+        s = answer_all(next, &window);
         at += offered.taken;
-        if offered.taken == 0 {
-            return;
-        }
+        turns += 1;
     }
 }
 
@@ -58,23 +58,31 @@ fn is_wanted(line: &[u8]) -> bool {
     }
 }
 
-fn print_rows(table: &[u64], rows: usize) {
+fn print_rows(table: &[u64; 12], rows: usize) {
     let mut i = 0;
     while (i < rows) & (i < 3) {
-        print_row(table, 4 * i);
+        print_row(table, i);
         i += 1;
     }
 }
 
-fn print_row(table: &[u64], at: usize) {
-    let mut text = [b' '; 8];
-    let mut k = 0;
-    while k < 4 {
-        if at + k < table.len() {
-            text[2 * k] = b'0' + ((table[at + k] % 10) as u8);
-        }
-        k += 1;
-    }
-    text[7] = b'\n';
+// The four numbers of a row; all of them are below 10 here.
+fn print_row(table: &[u64; 12], i: usize)
+    requires { ⌜ i < 3 ⌝ }
+{
+    let text = [
+        digit(table[4 * i]),
+        b' ',
+        digit(table[4 * i + 1]),
+        b' ',
+        digit(table[4 * i + 2]),
+        b' ',
+        digit(table[4 * i + 3]),
+        b'\n',
+    ];
     io::write_all(1, &text);
+}
+
+fn digit(n: u64) -> u8 {
+    b'0' + ((n % 10) as u8)
 }

@@ -1,3 +1,6 @@
+-- Both tests are the definition's.
+use mathlib.Core.Path.{refl}
+use Rattle.definition.specs.Bounds.{contextual}
 use Rattle.held.proofs.has_context.Statement.{statement}
 use Rattle.held.proofs.has_context.Tie as tie
 use Rattle.held.proofs.has_context.Reads as reads
@@ -5,7 +8,8 @@ use Rattle.held.proofs.has_context.Lts as lts
 
 -- src/lib.rt:63:1
 returns : tie.Need-returns
-returns c = ?
+unfolding contextual
+returns c = refl
 
 pub has-context-spec : {M : Type 1} → statement M
 has-context-spec = tie.close (tie.spec returns)

@@ -1,3 +1,12 @@
+-- What the last kept lines read backwards leave before them.
+use mathlib.Core.Path.{_≡_}
+use native.Mathlib.Omega.{arith}
+use Rattle.definition.specs.Definition.{keptLines}
+use Rattle.definition.specs.Text.{part}
+use Rattle.lines.specs.Lines.{lastStart}
+use Rattle.lines.proofs.Laws.{last-le}
+use Rattle.session.proofs.Parts.{part-length}
+use Rattle.held.proofs.Laws.{kept-back}
 use borrow.Author.Needs.{needs}
 use Rattle.held.proofs.kept_from.Statement.{statement}
 use Rattle.held.proofs.kept_from.Tie as tie
@@ -28,11 +37,20 @@ preceding-requires c κs = search needs
 
 -- src/lib.rt:159:5
 add-result : tie.Need-add-result
-add-result c = ?
+add-result c =
+    let s = c .before .before .before .before .before in
+    let a = s .args in
+    let size = part-length (a .s .floor) (a .s .next) (a .window .now) (s .pre .0) (s .pre .1) in
+    let inside = last-le (c .before .kept-lines .result) (a .s .settings .terminator) (part (a .s .floor) (a .s .next) (a .window .now)) in
+    omega (arith, c .preceding .ensures, inside, size, s .pre, s .good)
 
 -- src/lib.rt:152:1
 returns : tie.Need-returns
-returns c = ?
+returns c =
+    let s = c .before .before .before .before .before in
+    let a = s .args in
+    let back : c .preceding .result ≡ lastStart (keptLines (a .s .settings)) (a .s .settings .terminator) (part (a .s .floor) (a .s .next) (a .window .now)) = rw (c .before .kept-lines .ensures) at (c .preceding .ensures) in
+    rw back (kept-back (a .s) (a .window .now) (s .pre .0) (s .pre .1))
 
 pub kept-from-spec : {M : Type 1} → statement M
 kept-from-spec =

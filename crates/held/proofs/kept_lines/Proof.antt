@@ -1,3 +1,6 @@
+-- With context one line more than comes as before-context, else none.
+use mathlib.Core.Path.{sym, _∙_}
+use Rattle.definition.specs.Definition.{keptLines}
 use borrow.Author.Needs.{needs}
 use Rattle.held.proofs.kept_lines.Statement.{statement}
 use Rattle.held.proofs.kept_lines.Tie as tie
@@ -15,11 +18,13 @@ add-result c = search needs
 
 -- src/lib.rt:144:1
 returns : tie.Need-returns
-returns c = ?
+unfolding keptLines
+returns c = rw (sym (c .before .before .has-context .ensures) ∙ c .before .if1 .taken)
 
 -- src/lib.rt:144:1
 returns-2 : tie.Need-returns-2
-returns-2 c = ?
+unfolding keptLines
+returns-2 c = rw (sym (c .before .has-context .ensures) ∙ c .if1 .left)
 
 pub kept-lines-spec : {M : Type 1} → statement M
 kept-lines-spec = tie.close (tie.spec has-context-requires add-result returns returns-2)

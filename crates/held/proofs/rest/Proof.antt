@@ -1,3 +1,6 @@
+-- A rest counts where the input has ended and it has bytes.
+use mathlib.Core.Path.{sym}
+use Rattle.held.specs.Held.{restLine}
 use borrow.Author.Needs.{needs}
 use Rattle.held.proofs.rest.Statement.{statement}
 use Rattle.held.proofs.rest.Tie as tie
@@ -11,11 +14,13 @@ is-open-requires c κs = search needs
 
 -- src/lib.rt:137:1
 returns : tie.Need-returns
-returns c = ?
+unfolding restLine
+returns c = rw (sym (c .before .is-open .ensures)) (rw (c .if1 .taken))
 
 -- src/lib.rt:137:1
 returns-2 : tie.Need-returns-2
-returns-2 c = ?
+unfolding restLine
+returns-2 c = rw (sym (c .before .is-open .ensures)) (rw (c .if1 .left))
 
 pub rest-spec : {M : Type 1} → statement M
 rest-spec = tie.close (tie.spec is-open-requires returns returns-2)

@@ -1,3 +1,4 @@
+-- By the limit: none, or a number.
 use borrow.Author.Needs.{needs}
 use Rattle.held.proofs.within_limit.Statement.{statement}
 use Rattle.held.proofs.within_limit.Tie as tie
@@ -18,7 +19,7 @@ returns c = search needs
 
 -- src/lib.rt:53:1
 returns-2 : tie.Need-returns-2
-returns-2 c = ?
+returns-2 c = rw (c .before .limit .given .1)
 
 pub within-limit-spec : {M : Type 1} → statement M
 within-limit-spec = tie.close (tie.spec enum-told enum-known-limit returns returns-2)

@@ -2,11 +2,10 @@
 use Prim.Native.Nat.{_+_, _-_, _≤_, _<_}
 use mathlib.Core.Path.{_≡_, sym, ap}
 use native.Mathlib.Omega.{arith}
-use lib.ListN.{length, drop, drop-of-length-le, length-drop}
-use lib.Seq.{take-all}
+use lib.ListN.{length, drop, drop-of-length-le}
 use borrow.Author.Needs.{needs}
 use Rattle.definition.specs.Text.{firstLength, lines}
-use Rattle.lines.proofs.Laws.{count-step}
+use Rattle.lines.proofs.Laws.{count-step, step-at}
 use Rattle.lines.proofs.count.Statement.{statement}
 use Rattle.lines.proofs.count.Tie as tie
 use Rattle.lines.proofs.count.Reads as reads
@@ -48,12 +47,7 @@ stepped : (c : tie.After-step Inv-loop μ-loop)
 stepped c =
     let l = c .before .before .before in
     let a = l .before .before .args in
-    let rest = drop (l .loop .i) (a .s .now) in
-    let size = length-drop (l .loop .i) (a .s .now) in
-    let first : c .step .result ≡ firstLength (a .terminator) rest =
-    rw (take-all (length (a .s .now) - l .loop .i) rest (omega arith)) at (c .step .ensures)
-    in
-    (first, omega (arith, first), omega (arith, first))
+    step-at (a .terminator) (l .loop .i) (c .step .result) (a .s .now) (omega arith) (c .step .ensures)
 
 -- src/lib.rt:75:9
 add-i : tie.Need-add-i Inv-loop μ-loop

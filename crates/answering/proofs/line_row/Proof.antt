@@ -1,0 +1,20 @@
+-- The line's place, length and number.
+use mathlib.Core.Path.{refl}
+use Rattle.answering.specs.Giving.{lineRow}
+use borrow.Author.Needs.{needs}
+use Rattle.answering.proofs.line_row.Statement.{statement}
+use Rattle.answering.proofs.line_row.Tie as tie
+use Rattle.answering.proofs.line_row.Reads as reads
+use Rattle.answering.proofs.line_row.Lts as lts
+
+-- src/lib.rt:133:17
+add-t5 : tie.Need-add-t5
+add-t5 c = search needs
+
+-- src/lib.rt:125:1
+returns : tie.Need-returns
+unfolding lineRow
+returns c = refl
+
+pub line-row-spec : {M : Type 1} → statement M
+line-row-spec = tie.close (tie.spec add-t5 returns)

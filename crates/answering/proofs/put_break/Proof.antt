@@ -1,0 +1,31 @@
+-- A break at the front, or nothing.
+use native.Mathlib.Omega.{arith}
+use borrow.Author.Tests.{le-ltb, lt-ltb}
+use Rattle.answering.specs.Giving.{breakTable}
+use borrow.Author.Needs.{needs}
+use Rattle.answering.proofs.put_break.Statement.{statement}
+use Rattle.answering.proofs.put_break.Tie as tie
+use Rattle.answering.proofs.put_break.Reads as reads
+use Rattle.answering.proofs.put_break.Lts as lts
+use Rattle.rows.proofs.put_row.Reads as put-row-reads
+
+-- src/lib.rt:220:9
+put-row-requires : tie.Need-put-row-requires
+put-row-requires c κs = search needs
+
+-- src/lib.rt:209:1
+same-length : tie.Need-same-length
+same-length c = search needs
+
+-- src/lib.rt:209:1
+returns : tie.Need-returns
+unfolding breakTable
+returns c = rw (lt-ltb 0 (c .before .before .before .before .before .before .args .gap) (omega arith)) (c .before .before .put-row .ensures)
+
+-- src/lib.rt:209:1
+returns-2 : tie.Need-returns-2
+unfolding breakTable
+returns-2 c = rw (le-ltb 0 (c .before .before .args .gap) (omega arith))
+
+pub put-break-spec : {M : Type 1} → statement M
+put-break-spec = tie.close (tie.spec put-row-requires same-length returns returns-2)

@@ -1,0 +1,20 @@
+-- The list, and the length of the window lent.
+use Rattle.session.specs.Sound.{sound}
+use borrow.Author.Needs.{needs}
+use Rattle.held.proofs.is_sound.Statement.{statement}
+use Rattle.held.proofs.is_sound.Tie as tie
+use Rattle.held.proofs.is_sound.Reads as reads
+use Rattle.held.proofs.is_sound.Lts as lts
+use Rattle.held.proofs.agree.Reads as agree-reads
+
+-- src/lib.rt:123:5
+agree-requires : tie.Need-agree-requires
+agree-requires c κs = search needs
+
+-- src/lib.rt:120:1
+returns : tie.Need-returns
+unfolding sound
+returns c = rw (c .before .agree .ensures)
+
+pub is-sound-spec : {M : Type 1} → statement M
+is-sound-spec = tie.close (tie.spec agree-requires returns)

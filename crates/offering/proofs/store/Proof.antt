@@ -1,0 +1,124 @@
+-- Rolled, taken in, and the session with the places moved along.
+use Prim.Native.Nat.{_+_, _-_, _≤_}
+use mathlib.Core.Path.{_≡_, sym, _∙_, ap}
+use native.Mathlib.Omega.{arith}
+use lib.ListN.{length}
+use lib.Seq.{length-take-le}
+use Rattle.definition.specs.Bounds.{maxInput, maxWindow}
+use Rattle.line_buffer.proofs.Laws.{length-rolled}
+use Rattle.session.specs.Calls.{stored}
+use Rattle.session.specs.Held.{keptFrom}
+use Rattle.session.specs.Sound.{takenBytes}
+use Rattle.offering.proofs.Laws.{stored-bytes}
+use borrow.Author.Needs.{needs}
+use Rattle.offering.proofs.store.Statement.{statement}
+use Rattle.offering.proofs.store.Tie as tie
+use Rattle.offering.proofs.store.Reads as reads
+use Rattle.offering.proofs.store.Lts as lts
+use Rattle.line_buffer.proofs.roll.Reads as roll-reads
+use Rattle.line_buffer.proofs.take_in.Reads as take-in-reads
+use Rattle.offering.proofs.first_replaced.Reads as first-replaced-reads
+use Rattle.offering.proofs.input_after.Reads as input-after-reads
+
+record Facts (c : tie.Start) : Type 0 where
+  back : c .args .from ≤ c .args .s .next
+  ordered : c .args .from ≤ c .args .s .end
+  inside : c .args .s .end ≤ length (c .args .window .now)
+  fits : c .args .s .end - c .args .from + c .args .n ≤ c .args .s .window
+  most : c .args .s .window ≤ maxWindow
+  size : c .args .s .bytes + (c .args .s .end - c .args .s .next) ≤ maxInput
+
+facts : (c : tie.Start) → Facts c
+unfolding keptFrom
+facts c =
+    let r = c .pre .sounded in
+    let a = r .agree in
+    record {
+      back = omega (arith, r .from-is);
+      ordered = omega (arith, r .from-is, a);
+      inside = omega (arith, r .same, a);
+      fits = c .pre .fits;
+      most = a .most;
+      size = a .size;
+    }
+
+-- src/lib.rt:160:9
+slice-aggregate-part : tie.Need-slice-aggregate-part
+slice-aggregate-part c = sym (length-take-le (c .before .before .before .before .args .n) (c .before .before .before .before .args .piece .now) (c .before .before .before .before .pre .some))
+
+-- src/lib.rt:161:5
+roll-requires : tie.Need-roll-requires
+roll-requires c κs = (facts (c .before .before .before .before .before) .ordered, facts (c .before .before .before .before .before) .inside)
+
+-- src/lib.rt:162:34
+sub-take-in : tie.Need-sub-take-in
+sub-take-in c = facts (c .before .before .before .before .before .before .before .before .before) .ordered
+
+-- src/lib.rt:162:5
+take-in-requires : tie.Need-take-in-requires
+take-in-requires c κs =
+    let s = c .before .before .before .before .before .before .before .before .before in
+    let a = s .args in
+    let f = facts s in
+    let rolled-length = ap length (c .before .before .before .roll .ensures) ∙ length-rolled (a .from) (a .s .end) (a .window .now) (f .ordered) (f .inside) in
+    omega (arith, f, rolled-length, length-take-le (a .n) (a .piece .now) (s .pre .some), s .pre .sounded .same)
+
+-- src/lib.rt:163:29
+sub-taken : tie.Need-sub-taken
+sub-taken c = search needs
+
+-- src/lib.rt:163:17
+add-taken : tie.Need-add-taken
+add-taken c = omega (arith, facts (c .before .before .before .before .before .before .before .before .before .before .before .before .before .before))
+
+-- src/lib.rt:164:9
+first-replaced-requires : tie.Need-first-replaced-requires
+first-replaced-requires c κs = facts (c .before .before .before .before .before .before .before .before .before .before .before .before .before .before) .size
+
+-- src/lib.rt:165:9
+input-after-requires : tie.Need-input-after-requires
+input-after-requires c κs = search needs
+
+-- src/lib.rt:170:15
+sub-t22 : tie.Need-sub-t22
+sub-t22 c = facts (c .before .before .before .before .before .before .before .before .before .before .before .before .before .before .before .before .before) .back
+
+-- src/lib.rt:171:14
+sub-t24 : tie.Need-sub-t24
+sub-t24 c = facts (c .before .before .before .before .before .before .before .before .before .before .before .before .before .before .before .before .before) .ordered
+
+-- src/lib.rt:171:14
+add-t25 : tie.Need-add-t25
+add-t25 c = omega (arith, facts (c .before .before .before .before .before .before .before .before .before .before .before .before .before .before .before .before .before))
+
+-- src/lib.rt:150:1
+same-length : tie.Need-same-length
+same-length c = search needs
+
+-- src/lib.rt:150:1
+returns : tie.Need-returns
+unfolding stored takenBytes
+returns c =
+    let s = c .before .before .before .before .before .before .before .before .before .before .before .before .before .before .before .before .before in
+    let a = s .args in (
+      rw (c .before .input-after .ensures, c .before .before .first-replaced .ensures, s .pre .sounded .from-is),
+      c .before .before .before .before .before .before .before .take-in .ensures ∙ rw (c .before .before .before .before .before .before .before .before .before .before .before .roll .ensures) (stored-bytes (a .s) (a .window .now) (a .piece .now) (a .from) (a .n) (s .pre)),
+    )
+
+pub store-spec : {M : Type 1} → statement M
+store-spec =
+    tie.close
+    (tie.spec
+    slice-aggregate-part
+    roll-requires
+    sub-take-in
+    take-in-requires
+    sub-taken
+    add-taken
+    first-replaced-requires
+    input-after-requires
+    sub-t22
+    sub-t24
+    add-t25
+    same-length
+    returns)

@@ -1,0 +1,142 @@
+-- The rows still to come, put into the table as it stands, are the rows wanted.
+use Prim.Native.Nat.{_+_, _-_, _*_, _≤_, _<_}
+use mathlib.Core.Path.{_≡_, sym}
+use native.Mathlib.Omega.{arith}
+use lib.ListN.{length, drop}
+use borrow.Author.Needs.{needs}
+use Rattle.definition.specs.Text.{firstLength, lines}
+use Rattle.lines.proofs.Laws.{step-at}
+use Rattle.rows.proofs.Laws.{Left, left-begun, left-done, row-fits, turn}
+use Rattle.rows.proofs.put_before.Statement.{statement}
+use Rattle.rows.proofs.put_before.Tie as tie
+use Rattle.rows.proofs.put_before.Reads as reads
+use Rattle.rows.proofs.put_before.Lts as lts
+use Rattle.lines.proofs.step.Reads as step-reads
+use Rattle.rows.proofs.put_row.Reads as put-row-reads
+
+abbrev Inv-loop : tie.InvT-loop
+Inv-loop table₀ at part terminator offset number i₀ k₀ table i k = Left terminator at offset number part table₀ table i k
+
+abbrev μ-loop : tie.MeasureT-loop
+μ-loop table₀ at part terminator offset number i₀ k₀ table i k = length part - i
+
+-- src/lib.rt:48:5
+loop-holds : tie.Need-loop-holds Inv-loop μ-loop
+loop-holds c =
+    let a = c .before .before .args in
+    left-begun (a .terminator) (a .at) (a .offset) (a .number) (a .part .now) (a .table .now)
+
+-- src/lib.rt:49:34
+sub-step : tie.Need-sub-step Inv-loop μ-loop
+sub-step c = omega arith
+
+-- src/lib.rt:49:34
+part-step-start : tie.Need-part-step-start Inv-loop μ-loop
+part-step-start c = search needs
+
+-- src/lib.rt:49:34
+part-step-end : tie.Need-part-step-end Inv-loop μ-loop
+part-step-end c = search needs
+
+-- src/lib.rt:49:13
+step-requires : tie.Need-step-requires Inv-loop μ-loop
+step-requires c κs = search needs
+
+-- the line at the place
+stepped : (c : tie.After-step Inv-loop μ-loop)
+    → let l = c .before .before .before in let a = l .before .before .before .args in
+    (c .step .result ≡ firstLength (a .terminator) (drop (l .loop .i) (a .part .now)))
+    × (0 < c .step .result)
+    × (l .loop .i + c .step .result ≤ length (a .part .now))
+stepped c =
+    let l = c .before .before .before in
+    let a = l .before .before .before .args in
+    step-at (a .terminator) (l .loop .i) (c .step .result) (a .part .now) (omega arith) (c .step .ensures)
+
+-- room for its row
+room : (c : tie.After-step Inv-loop μ-loop)
+    → let l = c .before .before .before in let a = l .before .before .before .args in
+    (a .at + 4 * l .loop .k + 4 ≤ length (l .loop .table)) × (l .loop .k + 1 ≤ length (lines (a .terminator) (a .part .now)))
+room c =
+    let l = c .before .before .before in
+    let s = l .before .before .before in
+    let a = s .args in
+    row-fits (a .terminator) (a .at) (a .offset) (a .number) (a .part .now) (a .table .now) (l .loop .table) (l .loop .i) (l .loop .k) (l .loop .inv)
+    (omega arith) (s .pre .room)
+
+-- src/lib.rt:52:21
+add-t17 : tie.Need-add-t17 Inv-loop μ-loop
+add-t17 c = omega (arith, c .before .before .before .loop .inv, c .before .before .before .before .before .before .pre)
+
+-- src/lib.rt:54:21
+add-t20 : tie.Need-add-t20 Inv-loop μ-loop
+add-t20 c = omega (arith, room c, c .before .before .before .before .before .before .pre)
+
+-- src/lib.rt:56:29
+mul-put-row : tie.Need-mul-put-row Inv-loop μ-loop
+mul-put-row c = omega (arith, room (c .before), c .before .before .before .before .before .before .before .good)
+
+-- src/lib.rt:56:24
+add-put-row : tie.Need-add-put-row Inv-loop μ-loop
+add-put-row c = omega (arith, room (c .before), c .before .before .before .before .before .before .before .good)
+
+-- src/lib.rt:56:9
+put-row-requires : tie.Need-put-row-requires Inv-loop μ-loop
+put-row-requires c κs = room (c .before) .0
+
+-- src/lib.rt:57:9
+add-i : tie.Need-add-i Inv-loop μ-loop
+add-i c = omega (arith, stepped (c .before .before .before .before), c .before .before .before .before .before .before .before .before .before .before .good)
+
+-- src/lib.rt:58:9
+add-k : tie.Need-add-k Inv-loop μ-loop
+add-k c = omega (arith, room (c .before .before .before .before), c .before .before .before .before .before .before .before .before .before .before .good)
+
+-- src/lib.rt:48:5
+loop-less : tie.Need-loop-less Inv-loop μ-loop
+loop-less c = omega (arith, stepped (c .before .before .before .before))
+
+-- src/lib.rt:48:5
+loop-again : tie.Need-loop-again Inv-loop μ-loop
+loop-again c =
+    let after = c .before .before .before .before in
+    let l = after .before .before .before in
+    let s = l .before .before .before in
+    let a = s .args in
+    rw (c .before .before .put-row .ensures, stepped after .0)
+    (turn (a .terminator) (a .at) (a .offset) (a .number) (a .part .now) (a .table .now) (l .loop .table) (l .loop .i) (l .loop .k) (l .loop .inv)
+    (omega arith) (s .pre .room))
+
+-- src/lib.rt:35:1
+same-length : tie.Need-same-length Inv-loop μ-loop
+same-length c = c .before .loop .inv .same
+
+-- src/lib.rt:35:1
+returns : tie.Need-returns Inv-loop μ-loop
+returns c =
+    let l = c .before in
+    let a = l .before .before .before .args in
+    left-done (a .terminator) (a .at) (a .offset) (a .number) (a .part .now) (a .table .now) (l .loop .table) (l .loop .i) (l .loop .k) (l .loop .inv) (omega arith)
+
+pub put-before-spec : {M : Type 1} → statement M
+put-before-spec =
+    tie.close
+    (tie.spec
+    Inv-loop
+    μ-loop
+    loop-holds
+    sub-step
+    part-step-start
+    part-step-end
+    step-requires
+    add-t17
+    add-t20
+    mul-put-row
+    add-put-row
+    put-row-requires
+    add-i
+    add-k
+    loop-less
+    loop-again
+    same-length
+    returns)

@@ -1,0 +1,3 @@
+-- What is proved of the door.
+pub mod Laws
+pub mod Outcomes

@@ -1,0 +1,24 @@
+-- What offering gives, at the door.
+use Rattle.searcher.specs.Door.{doorOffered}
+use borrow.Author.Needs.{needs}
+use Rattle.searcher.proofs.Searcher.offer.Statement.{statement}
+use Rattle.searcher.proofs.Searcher.offer.Tie as tie
+use Rattle.searcher.proofs.Searcher.offer.Reads as reads
+use Rattle.searcher.proofs.Searcher.offer.Lts as lts
+use Rattle.offering.proofs.offer.Reads as offer-reads
+
+-- src/lib.rt:85:13
+offer-requires : tie.Need-offer-requires
+offer-requires c κs = search needs
+
+-- src/lib.rt:80:5
+same-length : tie.Need-same-length
+same-length c = search needs
+
+-- src/lib.rt:80:5
+returns : tie.Need-returns
+unfolding doorOffered
+returns c = (rw (c .before .before .before .offer .ensures .0), c .before .before .before .offer .ensures .1)
+
+pub offer-spec : {M : Type 1} → statement M
+offer-spec = tie.close (tie.spec offer-requires same-length returns)
