@@ -1,0 +1,2 @@
+-- Laws of the written forms.
+pub mod Laws

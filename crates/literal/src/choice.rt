@@ -1,0 +1,45 @@
+// Which two bytes of a literal are looked for first. Any two give the right answer; the rarer they are in the text, the
+// fewer places are compared in vain.
+
+ghost use mathlib.Core.Path.{_≡_};
+ghost use Rattle.literal.specs.Choice.{common, placeIn, rarestBut};
+
+// The place of the rarest byte of the literal, but for the place `but`.
+pub fn rarest_but(literal: &[u8], but: usize) -> usize
+    ensures { λ r. ⌜ r ≡ rarestBut but (now (literal .entry)) ⌝ }
+{
+    let mut best = 0;
+    let mut top = 0;
+    let mut i = 0;
+    while i < literal.len() {
+        let at = i;
+        let rarity = rarity_of(literal[at]);
+        i += 1;
+        if (top < rarity) & (at != but) {
+            best = at;
+            top = rarity;
+        }
+    }
+    best
+}
+
+// A guess at call records: spaces and digits first, then letters as often as in English; what is not listed is rarest.
+fn rarity_of(b: u8) -> usize
+    ensures { λ r. ⌜ r ≡ placeIn b common ⌝ }
+{
+    place_in(b, b" 0123456789etaoinsrhldcumfpgwybvkxjqz")
+}
+
+// The first place of b, the length where there is none.
+fn place_in(b: u8, bytes: &[u8]) -> usize
+    ensures { λ r. ⌜ r ≡ placeIn b (now (bytes .entry)) ⌝ }
+{
+    let mut i = 0;
+    while i < bytes.len() {
+        if bytes[i] == b {
+            return i;
+        }
+        i += 1;
+    }
+    i
+}

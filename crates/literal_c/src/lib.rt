@@ -1,0 +1,28 @@
+// The literal matcher for programs in C and Rust: a slice is a pointer and a length, and a name is the whole program's.
+// bench/literal holds it to other searches.
+
+ghost use mathlib.Core.Path.{_≡_};
+ghost use Rattle.literal.specs.Choice.{chosen};
+ghost use Rattle.literal.specs.Literal.{stands};
+use literal::Pair;
+
+#[no_mangle]
+pub extern "C" fn literal_choose(literal: &[u8]) -> Pair
+    ensures { λ r. ⌜ r ≡ chosen (now (literal .entry)) ⌝ }
+{
+    literal::choose(literal)
+}
+
+#[no_mangle]
+pub extern "C" fn literal_contains(line: &[u8], literal: &[u8]) -> bool
+    ensures { λ r. ⌜ r ≡ stands (now (literal .entry)) (now (line .entry)) ⌝ }
+{
+    literal::contains(line, literal)
+}
+
+#[no_mangle]
+pub extern "C" fn literal_contains_by(line: &[u8], literal: &[u8], pair: Pair) -> bool
+    ensures { λ r. ⌜ r ≡ stands (now (literal .entry)) (now (line .entry)) ⌝ }
+{
+    literal::contains_by(line, literal, pair)
+}

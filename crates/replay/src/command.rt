@@ -1,0 +1,298 @@
+// The commands. The program lends the first W bytes of a room of 65,537 bytes, all 0 at the start, as window, and the
+// first N numbers of a table of 4,016, all 9 at the start. R is a refusal's number.
+//
+//   open BEFORE AFTER INVERT PASS STOP LIMIT TERM BINARY W   open R
+//       flags 0 or 1, LIMIT a number or `-`, TERM 0 to 255, BINARY `-`, `qN` or `cN` with N 0 to 255; W is passed on as
+//       given, and sets the length lent from here on, the whole room where it is larger
+//   offer HEX       offer R TAKEN          two lower-case digits a byte, `-` for none, at most 4,096 bytes
+//   waiting         waiting S              1 a line waits, 0 none, 6 refused
+//   line            line HEX
+//   answer YES N    answer R COUNT, then KIND,OFFSET,LENGTH,NUMBER for each row
+//   table FROM TO   table, then those numbers
+//   end             end R
+//   record          record R BYTES LINES MATCHES CAUSE FLAG OFFSET
+//   window          window HEX             the bytes lent
+//   poke AT HEX     poke                   the caller overwrites bytes of the room
+//   lend W          lend                   another length from here on
+//
+// Words are separated by one space. Numbers are decimal without leading zeros and below 2 to the 64; those that say what
+// is lent or reached (N, FROM, TO, AT, W of lend) lie within the table or the room.
+use crate::words;
+use crate::words::Asked;
+use crate::words::Command;
+use definition::Binary;
+use forms::Decoded;
+use forms::Number;
+use searcher::Searcher;
+use session::Waiting;
+use streams::Pending;
+
+// How the script stands.
+pub struct State {
+    pub searcher: Searcher,
+    // how many bytes of the room are lent
+    pub lent: usize,
+    // how many lines were acted on
+    pub lines: u64,
+    // a bad line, the end of the script or a failure came
+    pub over: bool,
+    pub pending: Pending,
+}
+
+pub fn start() -> State {
+    State {
+        searcher: Searcher::closed(),
+        lent: 0,
+        lines: 0,
+        over: false,
+        pending: streams::nothing_pending(),
+    }
+}
+
+// The command of a line.
+pub fn act(
+    state: State,
+    line: &[u8],
+    room: &mut [u8],
+    table: &mut [u64],
+    bytes: &mut [u8],
+    out: &mut [u8],
+) -> State {
+    let next = counted(state);
+    match words::command_of(line) {
+        Command::Open => open(next, line, room, out),
+        Command::Offer => offer(next, line, room, bytes, out),
+        Command::Waits => waiting(next, room, out),
+        Command::Line => show_line(next, room, out),
+        Command::Answer => answer(next, line, room, table, out),
+        Command::Table => show_table(next, line, table, out),
+        Command::End => end(next, out),
+        Command::Record => record(next, out),
+        Command::Window => show_window(next, room, out),
+        Command::Poke => poke(next, line, room, bytes, out),
+        Command::Lend => lend(next, line, room, out),
+        Command::Unknown => bad(next, out),
+    }
+}
+
+// One line more; no script has so many that the count is full.
+pub fn counted(state: State) -> State {
+    let mut next = state;
+    if state.lines < u64::MAX {
+        next.lines = state.lines + 1;
+    }
+    next
+}
+
+// Writes what is collected; a write that fails ends the program.
+pub fn flushed(state: State, out: &[u8]) -> State {
+    let pending = streams::flush(out, state.pending);
+    let mut next = with_pending(state, pending);
+    next.over = state.over | pending.failed;
+    next
+}
+
+pub fn failed(state: State, out: &mut [u8], reason: i32) -> State {
+    let told = streams::tell_failed_read(out, state.pending, reason);
+    flushed(with_pending(state, told), out)
+}
+
+pub fn bad(state: State, out: &mut [u8]) -> State {
+    let told = said_number(state, out, b"bad line ", state.lines);
+    let mut next = ended_line(told, out);
+    next.over = true;
+    next
+}
+
+fn open(state: State, line: &[u8], room: &[u8], out: &mut [u8]) -> State {
+    let Asked::For(settings) = words::settings_of(line) else {
+        return bad(state, out);
+    };
+    let Number::Value(length) = forms::number_at(line, 9) else {
+        return bad(state, out);
+    };
+    let opened = Searcher::open(settings, length as usize);
+    let mut next = with_searcher(state, opened.searcher);
+    next.lent = least(length as usize, room.len());
+    ended_line(said_number(next, out, b"open ", opened.refusal), out)
+}
+
+fn offer(state: State, line: &[u8], room: &mut [u8], bytes: &mut [u8], out: &mut [u8]) -> State {
+    let Decoded::Bytes(count) = forms::hex(forms::word(line, 1), bytes) else {
+        return bad(state, out);
+    };
+    let s = state.searcher;
+    let lent = least(state.lent, room.len());
+    let offered = s.offer(&mut room[..lent], &bytes[..count]);
+    let next = with_searcher(state, offered.searcher);
+    let told = said_number(next, out, b"offer ", offered.refusal);
+    ended_line(said_number(told, out, b" ", offered.taken as u64), out)
+}
+
+fn waiting(state: State, room: &[u8], out: &mut [u8]) -> State {
+    let s = state.searcher;
+    let lent = least(state.lent, room.len());
+    let told = match s.waiting(&room[..lent]) {
+        Waiting::LineWaits => 1,
+        Waiting::NoneWaits => 0,
+        Waiting::WaitingRefused => 6,
+    };
+    ended_line(said_number(state, out, b"waiting ", told), out)
+}
+
+fn show_line(state: State, room: &[u8], out: &mut [u8]) -> State {
+    let s = state.searcher;
+    let lent = least(state.lent, room.len());
+    said_bytes(state, out, b"line ", s.line(&room[..lent]))
+}
+
+fn answer(state: State, line: &[u8], room: &[u8], table: &mut [u64], out: &mut [u8]) -> State {
+    let hit = forms::number_at(line, 1);
+    let Number::Value(size) = forms::number_at(line, 2) else {
+        return bad(state, out);
+    };
+    let numbers = size as usize;
+    if !forms::is_within(hit, 1) | (table.len() < numbers) {
+        return bad(state, out);
+    }
+    let s = state.searcher;
+    let lent = least(state.lent, room.len());
+    let answered = s.answer(&room[..lent], &mut table[..numbers], forms::value(hit) == 1);
+    let next = with_searcher(state, answered.searcher);
+    let told = said_number(next, out, b"answer ", answered.refusal);
+    let counted = said_number(told, out, b" ", answered.rows as u64);
+    ended_line(said_rows(counted, out, table, answered.rows), out)
+}
+
+fn said_rows(state: State, out: &mut [u8], table: &[u64], rows: usize) -> State {
+    let mut told = state;
+    let mut at = 0;
+    let mut left = rows;
+    while (0 < left) & (4 <= table.len() - at) {
+        told = said_number(told, out, b" ", table[at]);
+        told = said_number(told, out, b",", table[at + 1]);
+        told = said_number(told, out, b",", table[at + 2]);
+        told = said_number(told, out, b",", table[at + 3]);
+        at += 4;
+        left -= 1;
+    }
+    told
+}
+
+fn show_table(state: State, line: &[u8], table: &[u64], out: &mut [u8]) -> State {
+    let Number::Value(first) = forms::number_at(line, 1) else {
+        return bad(state, out);
+    };
+    let Number::Value(last) = forms::number_at(line, 2) else {
+        return bad(state, out);
+    };
+    let from = first as usize;
+    let to = last as usize;
+    if (to < from) | (table.len() < to) {
+        return bad(state, out);
+    }
+    ended_line(
+        said_numbers(said(state, out, b"table"), out, &table[from..to]),
+        out,
+    )
+}
+
+fn said_numbers(state: State, out: &mut [u8], numbers: &[u64]) -> State {
+    let mut told = state;
+    let mut i = 0;
+    while i < numbers.len() {
+        told = said_number(told, out, b" ", numbers[i]);
+        i += 1;
+    }
+    told
+}
+
+fn end(state: State, out: &mut [u8]) -> State {
+    let s = state.searcher;
+    let ended = s.tell_end();
+    let next = with_searcher(state, ended.searcher);
+    ended_line(said_number(next, out, b"end ", ended.refusal), out)
+}
+
+fn record(state: State, out: &mut [u8]) -> State {
+    let s = state.searcher;
+    let recorded = s.end_record();
+    let end = recorded.end;
+    let refused = said_number(state, out, b"record ", recorded.refusal);
+    let bytes = said_number(refused, out, b" ", end.bytes);
+    let lines = said_number(bytes, out, b" ", end.lines);
+    let matches = said_number(lines, out, b" ", end.matches);
+    let cause = said_number(matches, out, b" ", end.cause);
+    let flag = said_number(cause, out, b" ", end.flag);
+    ended_line(said_number(flag, out, b" ", end.offset), out)
+}
+
+fn show_window(state: State, room: &[u8], out: &mut [u8]) -> State {
+    let lent = least(state.lent, room.len());
+    said_bytes(state, out, b"window ", &room[..lent])
+}
+
+fn poke(state: State, line: &[u8], room: &mut [u8], bytes: &mut [u8], out: &mut [u8]) -> State {
+    let Number::Value(place) = forms::number_at(line, 1) else {
+        return bad(state, out);
+    };
+    let Decoded::Bytes(count) = forms::hex(forms::word(line, 2), bytes) else {
+        return bad(state, out);
+    };
+    let at = place as usize;
+    if room.len() < at {
+        return bad(state, out);
+    }
+    if room.len() - at < count {
+        return bad(state, out);
+    }
+    line_buffer::take_in(room, at, &bytes[..count], Binary::Ignore, 0);
+    ended_line(said(state, out, b"poke"), out)
+}
+
+fn lend(state: State, line: &[u8], room: &[u8], out: &mut [u8]) -> State {
+    let Number::Value(length) = forms::number_at(line, 1) else {
+        return bad(state, out);
+    };
+    let lent = length as usize;
+    if room.len() < lent {
+        return bad(state, out);
+    }
+    let mut next = state;
+    next.lent = lent;
+    ended_line(said(next, out, b"lend"), out)
+}
+
+fn with_searcher(state: State, searcher: Searcher) -> State {
+    let mut next = state;
+    next.searcher = searcher;
+    next
+}
+
+fn with_pending(state: State, pending: Pending) -> State {
+    let mut next = state;
+    next.pending = pending;
+    next
+}
+
+fn said(state: State, out: &mut [u8], text: &[u8]) -> State {
+    with_pending(state, streams::put(out, state.pending, text))
+}
+
+fn said_number(state: State, out: &mut [u8], text: &[u8], number: u64) -> State {
+    let told = streams::put(out, state.pending, text);
+    with_pending(state, streams::put_number(out, told, number))
+}
+
+fn said_bytes(state: State, out: &mut [u8], text: &[u8], bytes: &[u8]) -> State {
+    let told = streams::put(out, state.pending, text);
+    ended_line(with_pending(state, streams::put_hex(out, told, bytes)), out)
+}
+
+fn ended_line(state: State, out: &mut [u8]) -> State {
+    said(state, out, b"\n")
+}
+
+fn least(a: usize, b: usize) -> usize {
+    if a < b { a } else { b }
+}
