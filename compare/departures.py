@@ -28,6 +28,13 @@ ALL = frozenset(NAMES)
 FIRST_BUFFER = 65_536
 
 
+def figures(ours):
+    """Of an outcome of the definition, what the Rust can tell too."""
+    if ours.end is None:
+        return Figures(ours.rows, ours.refusal, None, None)
+    return Figures(ours.rows, ours.refusal, ours.end.bytes, ours.end.binary)
+
+
 class Full(Exception):
     """No room in the buffer for the line that is being read."""
 
