@@ -115,7 +115,7 @@ def exhaustive():
     that has no factor in common with the grid's size carries on from input to input, so that all of it is gone through
     again and again, each time at other inputs."""
     chosen = list(grid())
-    stride, share, at = 30_011, 400, 0
+    stride, share, at = 30_011, 300, 0
     for data in inputs((NEWLINE, ord("a"), ord("b"), NUL), range(7)):
         for _ in range(share):
             at = (at + stride) % len(chosen)
@@ -255,8 +255,8 @@ SETS = {
     "zero reads": zero_reads,
     "beyond bounds": beyond_bounds,
     "from seed": lambda: from_seed(400_000),
-    "around windows": lambda: around_windows(40_000),
-    "long inputs": lambda: long_inputs(600),
+    "around windows": lambda: around_windows(15_000),
+    "long inputs": lambda: long_inputs(300),
     "every terminator": lambda: every_terminator(200),
     "binary runs": lambda: binary_runs(60_000),
     "damaged spools": lambda: damaged_spools(8_000),
