@@ -12,27 +12,31 @@ use literal::Pair;
 use searcher::Searcher;
 use streams::Got;
 use streams::Pending;
+ghost use mathlib.Core.Path.{_≡_};
+ghost use Prim.Native.Nat.{_≤_};
+ghost use lib.ListN.{length};
+ghost use Rattle.searching.specs.Places.{Left, Pieced};
 
 // What there is to offer next.
-enum Next {
+pub enum Next {
     Piece(usize, usize),
     Ended,
     Failed(i32),
     Unwritten,
 }
 
-struct Refilled {
-    next: Next,
-    pending: Pending,
+pub struct Refilled {
+    pub next: Next,
+    pub pending: Pending,
 }
 
 // How the search stands once it was fed: what of the input is still to be offered, and whether all is told.
-struct Fed {
-    searcher: Searcher,
-    from: usize,
-    to: usize,
-    pending: Pending,
-    over: bool,
+pub struct Fed {
+    pub searcher: Searcher,
+    pub from: usize,
+    pub to: usize,
+    pub pending: Pending,
+    pub over: bool,
 }
 
 pub fn run() {
@@ -53,7 +57,9 @@ fn search(
     literal: &mut [u8],
     input: &mut [u8],
     out: &mut [u8],
-) -> Pending {
+) -> Pending
+    requires { ⌜ 1024 ≤ length (now literal) ⌝ }
+{
     match head::line(input, 0, 0) {
         Head::Line(end, to) => match forms::first_line(&input[..end]) {
             Asked::For(settings) => opened(
@@ -83,7 +89,9 @@ fn opened(
     from: usize,
     to: usize,
     out: &mut [u8],
-) -> Pending {
+) -> Pending
+    requires { ⌜ (1024 ≤ length (now literal)) × (from ≤ to) × (to ≤ length (now input)) ⌝ }
+{
     let opened = Searcher::open(settings, window.len());
     if opened.refusal != 0 {
         return printed::refusal(out, streams::nothing_pending(), opened.refusal);
@@ -108,8 +116,8 @@ fn opened(
     }
 }
 
-// Shows, matches and answers line after line. An answer that is refused says that no line waits: then more is offered. The
-// loop has the one call each of line, answer and offer, so that they are compiled into it.
+// Shows, matches and answers line after line, and offers more where none waits. The one call each of line, answer and
+// offer is here or below, so that they are compiled into the loop.
 fn search_text(
     searcher: Searcher,
     literal: &[u8],
@@ -119,7 +127,9 @@ fn search_text(
     from: usize,
     to: usize,
     out: &mut [u8],
-) -> Pending {
+) -> Pending
+    requires { ⌜ to ≤ length (now input) ⌝ }
+{
     let pair = literal::choose(literal);
     let mut s = searcher;
     let mut at = from;
@@ -134,29 +144,37 @@ fn search_text(
             s = answered.searcher;
             pending = printed::rows(out, pending, table, answered.rows);
         } else {
-            let fed = feed(s, window, input, at, end, out, pending);
+            let fed = feed(s, answered.refusal, window, input, at, end, out, pending);
+            if fed.over {
+                return fed.pending;
+            }
             s = fed.searcher;
             at = fed.from;
             end = fed.to;
             pending = fed.pending;
-            if fed.over {
-                return pending;
-            }
         }
     }
     pending
 }
 
-// No line waits: the end record where that is served, as it is after a stop; else what comes next is offered.
+// An answer was refused. By 6: no line waits, so the end record comes where that is served, as it is after a stop; else
+// what comes next is offered.
 fn feed(
     s: Searcher,
+    refusal: u64,
     window: &mut [u8],
     input: &mut [u8],
     from: usize,
     to: usize,
     out: &mut [u8],
     pending: Pending,
-) -> Fed {
+) -> Fed
+    requires { ⌜ to ≤ length (now input) ⌝ }
+    ensures { λ r. ⌜ Left r (now (input .exit)) ⌝ }
+{
+    if refusal != 6 {
+        return over(s, printed::refusal(out, pending, refusal));
+    }
     let recorded = s.end_record();
     if recorded.refusal == 0 {
         return over(s, printed::end(out, pending, recorded.end));
@@ -172,7 +190,9 @@ fn feed(
     }
 }
 
-fn over(s: Searcher, pending: Pending) -> Fed {
+fn over(s: Searcher, pending: Pending) -> Fed
+    ensures { λ r. ⌜ r .to ≡ 0 ⌝ }
+{
     Fed {
         searcher: s,
         from: 0,
@@ -183,7 +203,10 @@ fn over(s: Searcher, pending: Pending) -> Fed {
 }
 
 // What is left of the input, or a read of more, before which all that is collected is written.
-fn refill(input: &mut [u8], from: usize, to: usize, out: &[u8], pending: Pending) -> Refilled {
+fn refill(input: &mut [u8], from: usize, to: usize, out: &[u8], pending: Pending) -> Refilled
+    requires { ⌜ to ≤ length (now input) ⌝ }
+    ensures { λ r. ⌜ Pieced (r .next) (now (input .exit)) ⌝ }
+{
     if from < to {
         return Refilled {
             next: Next::Piece(from, to),
@@ -203,7 +226,9 @@ fn refill(input: &mut [u8], from: usize, to: usize, out: &[u8], pending: Pending
     }
 }
 
-fn read(input: &mut [u8]) -> Next {
+fn read(input: &mut [u8]) -> Next
+    ensures { λ r. ⌜ Pieced r (now (input .exit)) ⌝ }
+{
     match streams::read(input) {
         Got::Bytes(n) => Next::Piece(0, n),
         Got::Ended => Next::Ended,
@@ -219,13 +244,17 @@ fn offer(
     to: usize,
     out: &mut [u8],
     pending: Pending,
-) -> Fed {
+) -> Fed
+    requires { ⌜ (from ≤ to) × (to ≤ length (now input)) ⌝ }
+    ensures { λ r. ⌜ Left r (now (input .entry)) ⌝ }
+{
     let offered = s.offer(window, &input[from..to]);
     if offered.refusal != 0 {
         return over(s, printed::refusal(out, pending, offered.refusal));
     }
+    let next = offered.searcher;
     Fed {
-        searcher: offered.searcher,
+        searcher: next,
         from: from + offered.taken,
         to: to,
         pending: pending,
@@ -233,13 +262,16 @@ fn offer(
     }
 }
 
-fn tell(s: Searcher, out: &mut [u8], pending: Pending) -> Fed {
+fn tell(s: Searcher, out: &mut [u8], pending: Pending) -> Fed
+    ensures { λ r. ⌜ r .to ≡ 0 ⌝ }
+{
     let told = s.tell_end();
     if told.refusal != 0 {
         return over(s, printed::refusal(out, pending, told.refusal));
     }
+    let next = told.searcher;
     Fed {
-        searcher: told.searcher,
+        searcher: next,
         from: 0,
         to: 0,
         pending: pending,

@@ -1,6 +1,8 @@
 // What the program prints: rows, the end record, a refusal.
 use definition::End;
 use streams::Pending;
+ghost use Prim.Native.Nat.{_*_, _+_, _≤_};
+ghost use lib.ListN.{length};
 
 pub fn refusal(out: &mut [u8], pending: Pending, number: u64) -> Pending {
     let named = streams::put(out, pending, b"refused ");
@@ -14,23 +16,30 @@ pub fn end(out: &mut [u8], pending: Pending, end: End) -> Pending {
 }
 
 // The first rows of a table.
-pub fn rows(out: &mut [u8], pending: Pending, table: &[u64], count: usize) -> Pending {
+pub fn rows(out: &mut [u8], pending: Pending, table: &[u64], count: usize) -> Pending
+    requires { ⌜ 4 * count ≤ length (now table) ⌝ }
+{
     let mut told = pending;
-    let mut at = 0;
-    let mut left = count;
-    while (0 < left) & (4 <= table.len() - at) {
-        told = numbers(
-            out,
-            told,
-            table[at],
-            table[at + 3],
-            table[at + 1],
-            table[at + 2],
-        );
-        at += 4;
-        left -= 1;
+    let mut i = 0;
+    while i < count {
+        told = row(out, told, table, 4 * i);
+        i += 1;
     }
     told
+}
+
+// A row has kind, offset, length and number; it is printed as kind, number, offset and length.
+fn row(out: &mut [u8], pending: Pending, table: &[u64], at: usize) -> Pending
+    requires { ⌜ at + 4 ≤ length (now table) ⌝ }
+{
+    numbers(
+        out,
+        pending,
+        table[at],
+        table[at + 3],
+        table[at + 1],
+        table[at + 2],
+    )
 }
 
 // Four numbers on a line.

@@ -1,0 +1,2 @@
+-- Laws of the places in the input.
+pub mod Laws

@@ -1,0 +1,2 @@
+-- Where the parts of the input lie.
+pub mod Places
