@@ -26,6 +26,10 @@ use forms::Number;
 use searcher::Searcher;
 use session::Waiting;
 use streams::Pending;
+ghost use mathlib.Core.Path.{_≡_};
+ghost use Prim.Native.Nat.{_+_, _≤_, min};
+ghost use lib.ListN.{length};
+ghost use Rattle.io.specs.Counts.{Counts};
 
 // How the script stands.
 pub struct State {
@@ -122,8 +126,9 @@ fn offer(state: State, line: &[u8], room: &mut [u8], bytes: &mut [u8], out: &mut
         return bad(state, out);
     };
     let s = state.searcher;
-    let lent = least(state.lent, room.len());
-    let offered = s.offer(&mut room[..lent], &bytes[..count]);
+    let lent = within(state.lent, room);
+    let size = within(count, bytes);
+    let offered = s.offer(&mut room[..lent], &bytes[..size]);
     let next = with_searcher(state, offered.searcher);
     let told = said_number(next, out, b"offer ", offered.refusal);
     ended_line(said_number(told, out, b" ", offered.taken as u64), out)
@@ -131,7 +136,7 @@ fn offer(state: State, line: &[u8], room: &mut [u8], bytes: &mut [u8], out: &mut
 
 fn waiting(state: State, room: &[u8], out: &mut [u8]) -> State {
     let s = state.searcher;
-    let lent = least(state.lent, room.len());
+    let lent = within(state.lent, room);
     let told = match s.waiting(&room[..lent]) {
         Waiting::LineWaits => 1,
         Waiting::NoneWaits => 0,
@@ -142,7 +147,7 @@ fn waiting(state: State, room: &[u8], out: &mut [u8]) -> State {
 
 fn show_line(state: State, room: &[u8], out: &mut [u8]) -> State {
     let s = state.searcher;
-    let lent = least(state.lent, room.len());
+    let lent = within(state.lent, room);
     said_bytes(state, out, b"line ", s.line(&room[..lent]))
 }
 
@@ -152,11 +157,14 @@ fn answer(state: State, line: &[u8], room: &[u8], table: &mut [u64], out: &mut [
         return bad(state, out);
     };
     let numbers = size as usize;
-    if !forms::is_within(hit, 1) | (table.len() < numbers) {
+    if !forms::is_within(hit, 1) {
+        return bad(state, out);
+    }
+    if table.len() < numbers {
         return bad(state, out);
     }
     let s = state.searcher;
-    let lent = least(state.lent, room.len());
+    let lent = within(state.lent, room);
     let answered = s.answer(&room[..lent], &mut table[..numbers], forms::value(hit) == 1);
     let next = with_searcher(state, answered.searcher);
     let told = said_number(next, out, b"answer ", answered.refusal);
@@ -165,18 +173,34 @@ fn answer(state: State, line: &[u8], room: &[u8], table: &mut [u64], out: &mut [
 }
 
 fn said_rows(state: State, out: &mut [u8], table: &[u64], rows: usize) -> State {
+    let count = least(rows, table.len() / 4);
     let mut told = state;
-    let mut at = 0;
-    let mut left = rows;
-    while (0 < left) & (4 <= table.len() - at) {
-        told = said_number(told, out, b" ", table[at]);
-        told = said_number(told, out, b",", table[at + 1]);
-        told = said_number(told, out, b",", table[at + 2]);
-        told = said_number(told, out, b",", table[at + 3]);
-        at += 4;
-        left -= 1;
+    let mut i = 0;
+    while i < count {
+        told = said_row(told, out, table, 4 * i);
+        i += 1;
     }
     told
+}
+
+fn said_row(state: State, out: &mut [u8], table: &[u64], at: usize) -> State
+    requires { ⌜ at + 4 ≤ length (now table) ⌝ }
+{
+    said_four(
+        state,
+        out,
+        table[at],
+        table[at + 1],
+        table[at + 2],
+        table[at + 3],
+    )
+}
+
+fn said_four(state: State, out: &mut [u8], a: u64, b: u64, c: u64, d: u64) -> State {
+    let first = said_number(state, out, b" ", a);
+    let second = said_number(first, out, b",", b);
+    let third = said_number(second, out, b",", c);
+    said_number(third, out, b",", d)
 }
 
 fn show_table(state: State, line: &[u8], table: &[u64], out: &mut [u8]) -> State {
@@ -188,7 +212,10 @@ fn show_table(state: State, line: &[u8], table: &[u64], out: &mut [u8]) -> State
     };
     let from = first as usize;
     let to = last as usize;
-    if (to < from) | (table.len() < to) {
+    if to < from {
+        return bad(state, out);
+    }
+    if table.len() < to {
         return bad(state, out);
     }
     ended_line(
@@ -218,17 +245,21 @@ fn record(state: State, out: &mut [u8]) -> State {
     let s = state.searcher;
     let recorded = s.end_record();
     let end = recorded.end;
-    let refused = said_number(state, out, b"record ", recorded.refusal);
-    let bytes = said_number(refused, out, b" ", end.bytes);
-    let lines = said_number(bytes, out, b" ", end.lines);
-    let matches = said_number(lines, out, b" ", end.matches);
-    let cause = said_number(matches, out, b" ", end.cause);
-    let flag = said_number(cause, out, b" ", end.flag);
-    ended_line(said_number(flag, out, b" ", end.offset), out)
+    let numbers = [
+        recorded.refusal,
+        end.bytes,
+        end.lines,
+        end.matches,
+        end.cause,
+        end.flag,
+        end.offset,
+    ];
+    let told = said(state, out, b"record");
+    ended_line(said_numbers(told, out, &numbers), out)
 }
 
 fn show_window(state: State, room: &[u8], out: &mut [u8]) -> State {
-    let lent = least(state.lent, room.len());
+    let lent = within(state.lent, room);
     said_bytes(state, out, b"window ", &room[..lent])
 }
 
@@ -246,7 +277,8 @@ fn poke(state: State, line: &[u8], room: &mut [u8], bytes: &mut [u8], out: &mut 
     if room.len() - at < count {
         return bad(state, out);
     }
-    line_buffer::take_in(room, at, &bytes[..count], Binary::Ignore, 0);
+    let size = within(count, bytes);
+    line_buffer::take_in(room, at, &bytes[..size], Binary::Ignore, 0);
     ended_line(said(state, out, b"poke"), out)
 }
 
@@ -293,6 +325,16 @@ fn ended_line(state: State, out: &mut [u8]) -> State {
     said(state, out, b"\n")
 }
 
-fn least(a: usize, b: usize) -> usize {
+// As many of some bytes as there are, at most n.
+fn within(n: usize, bytes: &[u8]) -> usize
+    ensures { λ r. ⌜ Counts r (now (bytes .entry)) ⌝ }
+    ensures { λ r. ⌜ r ≤ n ⌝ }
+{
+    least(n, bytes.len())
+}
+
+fn least(a: usize, b: usize) -> usize
+    ensures { λ r. ⌜ r ≡ min a b ⌝ }
+{
     if a < b { a } else { b }
 }

@@ -9,6 +9,8 @@ mod words;
 use command::State;
 use lines::Found;
 use streams::Got;
+ghost use Prim.Native.Nat.{_≤_};
+ghost use lib.ListN.{length};
 
 // The longest line that can be a command: an offer or a poke of 4,096 bytes.
 const LONGEST: usize = 8_210;
@@ -21,21 +23,21 @@ struct Turn {
 }
 
 // The state, and where in the input the first line stands that is not yet whole.
-struct Acted {
-    state: State,
-    from: usize,
+pub struct Acted {
+    pub state: State,
+    pub from: usize,
 }
 
-pub fn run() {
+pub fn play() {
     let mut room = [0u8; 65_537];
     let mut table = [9u64; 4_016];
     let mut bytes = [0u8; 4_096];
     let mut input = [0u8; 65_536];
     let mut out = [0u8; 65_536];
-    run_on(&mut room, &mut table, &mut bytes, &mut input, &mut out);
+    run(&mut room, &mut table, &mut bytes, &mut input, &mut out);
 }
 
-fn run_on(room: &mut [u8], table: &mut [u64], bytes: &mut [u8], input: &mut [u8], out: &mut [u8]) {
+fn run(room: &mut [u8], table: &mut [u64], bytes: &mut [u8], input: &mut [u8], out: &mut [u8]) {
     let mut now = Turn {
         state: command::start(),
         held: 0,
@@ -44,7 +46,7 @@ fn run_on(room: &mut [u8], table: &mut [u64], bytes: &mut [u8], input: &mut [u8]
     let mut turns = u64::MAX;
     while 0 < turns {
         turns -= 1;
-        now = turn(now, room, table, bytes, input, out);
+        now = step(now, room, table, bytes, input, out);
         if now.done {
             return;
         }
@@ -52,7 +54,7 @@ fn run_on(room: &mut [u8], table: &mut [u64], bytes: &mut [u8], input: &mut [u8]
 }
 
 // Writes what is collected, then reads once and acts on what came.
-fn turn(
+fn step(
     now: Turn,
     room: &mut [u8],
     table: &mut [u64],
@@ -62,7 +64,10 @@ fn turn(
 ) -> Turn {
     let state = command::flushed(now.state, out);
     let held = now.held;
-    if state.over | (input.len() <= held) {
+    if state.over {
+        return done(state);
+    }
+    if input.len() <= held {
         return done(state);
     }
     match streams::read(&mut input[held..]) {
@@ -89,7 +94,9 @@ fn more(
     input: &mut [u8],
     to: usize,
     out: &mut [u8],
-) -> Turn {
+) -> Turn
+    requires { ⌜ to ≤ length (now input) ⌝ }
+{
     let acted = act_on_lines(state, room, table, bytes, &input[..to], out);
     let from = acted.from;
     line_buffer::roll(input, from, to);
@@ -116,10 +123,18 @@ fn act_on_lines(
     bytes: &mut [u8],
     input: &[u8],
     out: &mut [u8],
-) -> Acted {
+) -> Acted
+    ensures { λ r. ⌜ r .from ≤ length (now (input .entry)) ⌝ }
+{
     let mut now = state;
     let mut from = 0;
-    while (from < input.len()) & !now.over {
+    while from < input.len() {
+        if now.over {
+            return Acted {
+                state: now,
+                from: from,
+            };
+        }
         match lines::find(&input[from..], b'\n') {
             Found::At(length) => {
                 let end = from + length;

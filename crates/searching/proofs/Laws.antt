@@ -1,11 +1,11 @@
 -- Laws of the places in the input, for the functions here.
-use Prim.Native.Nat.{ℕ, _+_, _-_, _≤_, _<_}
-use mathlib.Core.Path.{_≡_, refl, sym, _∙_}
+use Prim.Native.Nat.{ℕ, _≤_, _<_}
+use mathlib.Core.Path.{_≡_, refl}
 use mathlib.Core.Bool.{Bool, true, false, cond}
-use mathlib.Core.List.{List, _++_}
+use mathlib.Core.List.{List}
 use native.Mathlib.Omega.{arith}
 use lib.Dec.{leb, ltb}
-use lib.ListN.{length, take, drop, length-append, length-drop, length-take}
+use lib.ListN.{length}
 use borrow.Author.Tests.{leb-true, ltb-true}
 use Rattle.definition.specs.Text.{firstPlace}
 use Rattle.searching.specs.declared.head.Seen.the-variants.{Whole, Unfinished, TooLong}
@@ -27,17 +27,3 @@ whole-at n xs h = go (leb (firstPlace newline xs) longest) refl (ltb (firstPlace
     go false p b q e =
         let z : _≡_ {A = ℕ} 0 1 = cc in
         absurd (omega arith)
-
--- a tail that was lent and came back leaves the length
-pub tail-back : (at : ℕ) (new xs : List ℕ) → at ≤ length xs → length new ≡ length (take (length xs - at) (drop at xs))
-    → length (take at xs ++ (new ++ drop (length xs - at) (drop at xs))) ≡ length xs
-tail-back at new xs h e =
-    omega (
-      arith,
-      length-append (take at xs) (new ++ drop (length xs - at) (drop at xs)),
-      length-append new (drop (length xs - at) (drop at xs)),
-      length-take at xs,
-      length-take (length xs - at) (drop at xs),
-      length-drop (length xs - at) (drop at xs),
-      length-drop at xs,
-    )

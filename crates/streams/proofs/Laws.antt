@@ -9,7 +9,7 @@ use native.Mathlib.Numerals.{add-one}
 use native.Mathlib.Omega.{arith}
 use lib.Dec.{T, leb, lit<}
 use lib.IntN.{ℤ, pos, negsuc}
-use lib.ListN.{length, take, getD, length-append, length-take}
+use lib.ListN.{length, take, drop, getD, length-append, length-drop, length-take}
 use lib.Seq.{take-suc}
 use lib.Signed.{ltZ, nonNeg}
 use borrow.Author.Tests.{le-leb, lt-leb}
@@ -99,3 +99,19 @@ pub hex-some : (xs : List ℕ) → 0 < length xs → hexText xs ≡ hexed xs
 unfolding hexText
 hex-some [] h = absurd (omega arith)
 hex-some (x ∷ xs) h = refl
+
+-- # A buffer read into
+
+-- a tail that was lent and came back leaves the length
+pub tail-back : (at : ℕ) (new xs : List ℕ) → at ≤ length xs → length new ≡ length (take (length xs - at) (drop at xs))
+    → length (take at xs ++ (new ++ drop (length xs - at) (drop at xs))) ≡ length xs
+tail-back at new xs h e =
+    omega (
+      arith,
+      length-append (take at xs) (new ++ drop (length xs - at) (drop at xs)),
+      length-append new (drop (length xs - at) (drop at xs)),
+      length-take at xs,
+      length-take (length xs - at) (drop at xs),
+      length-drop (length xs - at) (drop at xs),
+      length-drop at xs,
+    )

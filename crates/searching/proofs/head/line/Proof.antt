@@ -5,7 +5,8 @@ use mathlib.Core.Path.{sym, _∙_}
 use mathlib.Core.Path.{_≡_}
 use Prim.Native.Nat.{_-_, _≤_}
 use lib.ListN.{length, take, drop, length-drop, length-take}
-use Rattle.searching.proofs.Laws.{tail-back, whole-at}
+use Rattle.streams.proofs.Laws.{tail-back}
+use Rattle.searching.proofs.Laws.{whole-at}
 use Rattle.searching.proofs.head.line.Statement.{statement}
 use Rattle.searching.proofs.head.line.Tie as tie
 use Rattle.searching.proofs.head.line.Reads as reads
