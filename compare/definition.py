@@ -92,14 +92,16 @@ class Run:
         elif s.stop and not selected and self.matches > 0:
             self.cause = NONMATCH
 
+    def kept_from(self):
+        """Where the kept part before the next line begins."""
+        s, first = self.settings, self.gone
+        if s.before > 0 or s.after > 0:
+            first = max(self.gone - (s.before + 1), self.shown + 1)
+        return self.lines[first][0] if first < len(self.lines) else sum(self.lines[-1]) if self.lines else 0
+
     def has_room(self):
         """Whether the next line fits in the window beside what is kept before it."""
-        s, at = self.settings, self.gone
-        first = at
-        if s.before > 0 or s.after > 0:
-            first = max(at - (s.before + 1), self.shown + 1)
-        offset, length = self.lines[at]
-        return offset + length - self.lines[first][0] <= s.window
+        return sum(self.lines[self.gone]) - self.kept_from() <= self.settings.window
 
 
 def end_record(s, data, text, run):

@@ -28,6 +28,13 @@ ALL = frozenset(NAMES)
 FIRST_BUFFER = 65_536
 
 
+def figures(ours):
+    """Of an outcome of the definition, what the Rust can tell too."""
+    if ours.end is None:
+        return Figures(ours.rows, ours.refusal, None, None)
+    return Figures(ours.rows, ours.refusal, ours.end.bytes, ours.end.binary)
+
+
 class Full(Exception):
     """No room in the buffer for the line that is being read."""
 
@@ -83,6 +90,8 @@ class Driver:
         # and the place just after the last line with a row, or the front.
         self.front = self.next = self.upto = self.end = self.shown = 0
         self.rows, self.asked, self.matches, self.after_left = [], 0, 0, 0
+        # A place and the number of the line that begins there; rows come in order, so lines are counted on from here.
+        self.counted = 0, 1
         self.found = None
         self.input_ended = False
 
@@ -170,7 +179,9 @@ class Driver:
     def give(self, kind, start, end):
         if (self.s.before > 0 or self.s.after > 0) and self.rows and self.shown < start:
             self.rows.append((definition.BREAK, 0, 0, 0))
-        self.rows.append((kind, start, end - start, 1 + self.text.count(self.terminator, 0, start)))
+        place, number = self.counted
+        self.counted = start, number + self.text.count(self.terminator, place, start)
+        self.rows.append((kind, start, end - start, self.counted[1]))
         self.shown = end
 
     def line_end(self, start, high):

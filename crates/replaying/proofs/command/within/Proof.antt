@@ -1,0 +1,22 @@
+-- The lesser of the two lies within both.
+use native.Mathlib.Omega.{arith}
+use lib.ListN.{length-take}
+use borrow.Author.Needs.{needs}
+use Rattle.replaying.proofs.command.within.Statement.{statement}
+use Rattle.replaying.proofs.command.within.Tie as tie
+use Rattle.replaying.proofs.command.within.Reads as reads
+use Rattle.replaying.proofs.command.within.Lts as lts
+use Rattle.replaying.proofs.command.least.Reads as least-reads
+
+-- src/command.rt:326:5
+least-requires : tie.Need-least-requires
+least-requires c κs = search needs
+
+-- src/command.rt:323:1
+returns : tie.Need-returns
+returns c =
+    let least = length-take (c .least .result) (c .before .before .args .bytes .now) in
+    omega (arith, least, c .least .ensures)
+
+pub within-spec : {M : Type 1} → statement M
+within-spec = tie.close (tie.spec least-requires returns)
