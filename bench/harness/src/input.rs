@@ -16,11 +16,36 @@ pub struct Kind {
 }
 
 pub const KINDS: &[Kind] = &[
-    Kind { name: "spool", shortest: 19, longest: 219, one_in: 1_000 },
-    Kind { name: "short", shortest: 0, longest: 40, one_in: 1_000 },
-    Kind { name: "long", shortest: 500, longest: 1_500, one_in: 1_000 },
-    Kind { name: "every", shortest: 19, longest: 219, one_in: 1 },
-    Kind { name: "none", shortest: 19, longest: 219, one_in: 0 },
+    Kind {
+        name: "spool",
+        shortest: 19,
+        longest: 219,
+        one_in: 1_000,
+    },
+    Kind {
+        name: "short",
+        shortest: 0,
+        longest: 40,
+        one_in: 1_000,
+    },
+    Kind {
+        name: "long",
+        shortest: 500,
+        longest: 1_500,
+        one_in: 1_000,
+    },
+    Kind {
+        name: "every",
+        shortest: 19,
+        longest: 219,
+        one_in: 1,
+    },
+    Kind {
+        name: "none",
+        shortest: 19,
+        longest: 219,
+        one_in: 0,
+    },
 ];
 
 pub fn kind(name: &str) -> Option<Kind> {
@@ -43,7 +68,11 @@ impl Random {
         while line.len() < length {
             let number = self.below(12) == 0;
             for _ in 0..=self.below(9) {
-                let byte = if number { b'0' + self.below(10) as u8 } else { LETTERS[self.below(LETTERS.len() as u64) as usize] };
+                let byte = if number {
+                    b'0' + self.below(10) as u8
+                } else {
+                    LETTERS[self.below(LETTERS.len() as u64) as usize]
+                };
                 line.push(byte);
             }
             line.push(b' ');
@@ -58,7 +87,8 @@ pub fn make(kind: Kind, size: usize) -> Vec<u8> {
     let mut text = Vec::with_capacity(size + kind.longest + 1);
     let mut line = Vec::new();
     while text.len() < size {
-        let length = kind.shortest + random.below((kind.longest - kind.shortest + 1) as u64) as usize;
+        let length =
+            kind.shortest + random.below((kind.longest - kind.shortest + 1) as u64) as usize;
         random.fill(&mut line, length);
         if kind.one_in > 0 && random.below(kind.one_in) == 0 && length >= LITERAL.len() {
             let at = random.below((length - LITERAL.len() + 1) as u64) as usize;

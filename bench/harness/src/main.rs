@@ -12,6 +12,7 @@ mod input;
 mod program;
 mod ways;
 
+use std::collections::HashMap;
 use std::env;
 use std::io::{self, Write};
 use std::process::ExitCode;
@@ -66,27 +67,40 @@ fn timed(way: Way, asked: Asked, text: &[u8]) -> Result<(f64, Told), String> {
     Ok((begun.elapsed().as_nanos() as f64 / times as f64, told))
 }
 
-/// The ways take turns within a case and the cases within a round, so that whatever else the machine does falls on all.
+/// One round of a case: each way once, starting with another one in each round. All have to give the same.
+fn turns(round: usize, case: &Case, text: &[u8]) -> Result<Vec<(&'static str, f64, Told)>, String> {
+    let mut given: Vec<(&str, f64, Told)> = Vec::new();
+    for turn in 0..WAYS.len() {
+        let (name, way) = WAYS[(turn + round) % WAYS.len()];
+        let (spent, told) = timed(way, case.asked, text)?;
+        given.push((name, spent, told));
+    }
+    match given.iter().find(|(_, _, told)| *told != given[0].2) {
+        Some(other) => Err(format!("{other:?} beside {:?}", given[0])),
+        None => Ok(given),
+    }
+}
+
+/// The largest text of a kind that a case asks for; the others are beginnings of it.
+fn text_for(kind: Kind, cases: &[Case]) -> Option<Vec<u8>> {
+    let sizes = cases.iter().filter(|case| case.kind.name == kind.name);
+    let largest = sizes.map(|case| case.size).max()?;
+    Some(input::make(kind, largest))
+}
+
+/// The cases take turns too, so that whatever else the machine does falls on all of them.
 fn time(rounds: usize, cases: &[Case]) -> Result<(), String> {
-    let largest = |kind: &str| cases.iter().filter(|case| case.kind.name == kind).map(|case| case.size).max();
-    let texts: Vec<(Kind, Vec<u8>)> = input::KINDS
+    let texts: HashMap<&str, Vec<u8>> = input::KINDS
         .iter()
-        .filter_map(|kind| Some((*kind, input::make(*kind, largest(kind.name)?))))
+        .filter_map(|kind| Some((kind.name, text_for(*kind, cases)?)))
         .collect();
     // the first round only warms up
     for round in 0..=rounds {
         for (at, case) in cases.iter().enumerate() {
-            let text = texts.iter().find(|(kind, _)| kind.name == case.kind.name).map(|(_, text)| &text[..case.size]).ok_or("no text")?;
-            let mut first = None;
-            for turn in 0..WAYS.len() {
-                let (name, way) = WAYS[(turn + round) % WAYS.len()];
-                let (spent, told) = timed(way, case.asked, text)?;
-                if *first.get_or_insert(told) != told {
-                    return Err(format!("case {at}: {name} gives {told:?}, another {first:?}"));
-                }
-                if round > 0 {
-                    println!("{at} {name} {spent:.0} {} {}", told.rows, told.matches);
-                }
+            let text = &texts[case.kind.name][..case.size];
+            let given = turns(round, case, text).map_err(|text| format!("case {at}: {text}"))?;
+            for (name, spent, told) in given.iter().filter(|_| round > 0) {
+                println!("{at} {name} {spent:.0} {} {}", told.rows, told.matches);
             }
         }
     }
@@ -97,14 +111,22 @@ fn run(words: &[&str]) -> Result<(), String> {
     match words {
         ["make", kind, size] => {
             let text = input::make(known(kind)?, number(size)?);
-            io::stdout().write_all(&text).map_err(|error| error.to_string())
+            io::stdout()
+                .write_all(&text)
+                .map_err(|error| error.to_string())
         }
         ["time", rounds, cases @ ..] => {
-            let cases = cases.iter().map(|words| case(words)).collect::<Result<Vec<_>, _>>()?;
+            let cases = cases
+                .iter()
+                .map(|words| case(words))
+                .collect::<Result<Vec<_>, _>>()?;
             time(number(rounds)?, &cases)
         }
         ["once", name, words] => {
-            let (_, way) = WAYS.iter().find(|(known, _)| known == name).ok_or("no such way")?;
+            let (_, way) = WAYS
+                .iter()
+                .find(|(known, _)| known == name)
+                .ok_or("no such way")?;
             let case = case(words)?;
             let told = way.search(case.asked, &input::make(case.kind, case.size), LITERAL)?;
             println!("{} {}", told.rows, told.mixed);

@@ -4,7 +4,10 @@
 use std::io::{self, Read};
 
 use grep_matcher::{Match, Matcher, NoCaptures, NoError};
-use grep_searcher::{BinaryDetection, Searcher, SearcherBuilder, Sink, SinkContext, SinkContextKind, SinkFinish, SinkMatch};
+use grep_searcher::{
+    BinaryDetection, Searcher, SearcherBuilder, Sink, SinkContext, SinkContextKind, SinkFinish,
+    SinkMatch,
+};
 use memchr::memmem::Finder;
 
 #[repr(C)]
@@ -16,7 +19,13 @@ pub struct Pair {
 
 extern "C" {
     fn literal_choose(literal: *const u8, size: usize) -> Pair;
-    fn literal_contains_by(line: *const u8, length: usize, literal: *const u8, size: usize, pair: Pair) -> bool;
+    fn literal_contains_by(
+        line: *const u8,
+        length: usize,
+        literal: *const u8,
+        size: usize,
+        pair: Pair,
+    ) -> bool;
     fn searcher_search(
         before: usize,
         after: usize,
@@ -69,7 +78,11 @@ pub enum Way {
     Memmem,
 }
 
-pub const WAYS: [(&str, Way); 3] = [("driver", Way::Driver), ("same", Way::SameMatcher), ("memmem", Way::Memmem)];
+pub const WAYS: [(&str, Way); 3] = [
+    ("driver", Way::Driver),
+    ("same", Way::SameMatcher),
+    ("memmem", Way::Memmem),
+];
 
 impl Way {
     pub fn search(self, asked: Asked, text: &[u8], literal: &[u8]) -> Result<Told, String> {
@@ -104,7 +117,12 @@ fn by_driver(asked: Asked, text: &[u8], literal: &[u8]) -> Result<Told, String> 
         );
     }
     match told {
-        [0, rows, mixed, bytes, _, matches, _] => Ok(Told { rows, mixed, bytes, matches }),
+        [0, rows, mixed, bytes, _, matches, _] => Ok(Told {
+            rows,
+            mixed,
+            bytes,
+            matches,
+        }),
         [refusal, ..] => Err(format!("the driver refuses by {refusal}")),
     }
 }
@@ -113,7 +131,14 @@ fn by_driver(asked: Asked, text: &[u8], literal: &[u8]) -> Result<Told, String> 
 #[inline(never)]
 fn by_crate<M: Matcher>(asked: Asked, text: &[u8], matcher: &M) -> Result<Told, String> {
     let mut told = Told::default();
-    let reader = Pieces { rest: text, piece: if asked.piece == 0 { text.len() } else { asked.piece } };
+    let reader = Pieces {
+        rest: text,
+        piece: if asked.piece == 0 {
+            text.len()
+        } else {
+            asked.piece
+        },
+    };
     slow_searcher(asked)
         .search_reader(matcher, reader, &mut told)
         .map_err(|error| format!("the crate fails: {error}"))?;
@@ -157,7 +182,10 @@ pub struct Ours<'a> {
 impl<'a> Ours<'a> {
     pub fn new(literal: &'a [u8]) -> Ours<'a> {
         // Safety: the pointer goes with its length.
-        Ours { literal, pair: unsafe { literal_choose(literal.as_ptr(), literal.len()) } }
+        Ours {
+            literal,
+            pair: unsafe { literal_choose(literal.as_ptr(), literal.len()) },
+        }
     }
 }
 
@@ -167,7 +195,15 @@ impl Matcher for Ours<'_> {
 
     fn find_at(&self, line: &[u8], at: usize) -> Result<Option<Match>, NoError> {
         // Safety: each pointer goes with its length.
-        let hit = unsafe { literal_contains_by(line.as_ptr(), line.len(), self.literal.as_ptr(), self.literal.len(), self.pair) };
+        let hit = unsafe {
+            literal_contains_by(
+                line.as_ptr(),
+                line.len(),
+                self.literal.as_ptr(),
+                self.literal.len(),
+                self.pair,
+            )
+        };
         Ok(hit.then(|| Match::zero(at)))
     }
 
@@ -198,11 +234,21 @@ pub fn context_row(c: &SinkContext) -> [u64; 4] {
         SinkContextKind::After => 3,
         SinkContextKind::Other => 4,
     };
-    [kind, c.absolute_byte_offset(), c.bytes().len() as u64, c.line_number().unwrap_or(0)]
+    [
+        kind,
+        c.absolute_byte_offset(),
+        c.bytes().len() as u64,
+        c.line_number().unwrap_or(0),
+    ]
 }
 
 pub fn match_row(m: &SinkMatch) -> [u64; 4] {
-    [1, m.absolute_byte_offset(), m.bytes().len() as u64, m.line_number().unwrap_or(0)]
+    [
+        1,
+        m.absolute_byte_offset(),
+        m.bytes().len() as u64,
+        m.line_number().unwrap_or(0),
+    ]
 }
 
 pub const BREAK_ROW: [u64; 4] = [5, 0, 0, 0];

@@ -8,6 +8,7 @@ same a b c h k = h ∙ sym k
 pub one-outcome : OneOutcome
 one-outcome =
     record {
+      closing = λ r q h k. same r q _ h k;
       opening = λ c window r q h k. same r q _ h k;
       offer = λ self w piece r q v u h k. (same r q _ (h .0) (k .0), same v u _ (h .1) (k .1));
       waiting = λ self w r q h k. same r q _ h k;

@@ -8,12 +8,16 @@ use Rattle.definition.specs.declared.Settings.{Settings}
 use Rattle.session.specs.declared.Recorded.{Recorded}
 use Rattle.session.specs.declared.Waiting.{Waiting}
 use Rattle.session.specs.Calls.{answered, answeredTable, offered, offeredWindow, opened, recorded, shownLine, told, waiting}
+use Rattle.session.specs.Sound.{closed}
 use Rattle.searcher.specs.declared.Answered.{Answered}
 use Rattle.searcher.specs.declared.Offered.{Offered}
 use Rattle.searcher.specs.declared.Opened.{Opened}
 use Rattle.searcher.specs.declared.Searcher.{Searcher}
 use Rattle.searcher.specs.declared.Told.{Told}
-use Rattle.searcher.specs.Door.{doorAnswered, doorOffered, doorOpened, doorTold}
+use Rattle.searcher.specs.Door.{doorAnswered, doorOffered, doorOpened, doorTold, searcher}
+
+abbrev pub Closes : Searcher → Type 0
+Closes r = r ≡ searcher closed
 
 abbrev pub Opens : Settings → ℕ → Opened → Type 0
 Opens c window r = r ≡ doorOpened (opened c window)
@@ -43,6 +47,7 @@ Records self r = r ≡ recorded (self .session)
 
 -- Two outcomes of a call on the same arguments are the same outcome (proofs/Outcomes.antt, one-outcome).
 pub record OneOutcome : Type 0 where
+  pub closing : (r q : Searcher) → Closes r → Closes q → r ≡ q
   pub opening : (c : Settings) (window : ℕ) (r q : Opened) → Opens c window r → Opens c window q → r ≡ q
   pub offer :
       (self : Searcher) (w piece : List ℕ) (r q : Offered) (v u : List ℕ) → Offers self w piece r v → Offers self w piece q u → (r ≡ q) × (v ≡ u)

@@ -17,9 +17,10 @@ ghost use Prim.Native.Nat.{_+_, _-_, _≤_};
 ghost use Rattle.definition.specs.declared.Going.the-variants.{On};
 ghost use Rattle.definition.specs.Bounds.{maxInput};
 ghost use Rattle.definition.specs.Definition.{causeOf};
-ghost use Rattle.session.specs.Calls.{answered, answeredTable, endInput, fresh, goneThrough, inputTold, isQuit, noRecord, offered, offeredWindow, opened, recordOf, recorded, recordedPlace, remains, shownLine, told, toldSession, waiting};
+ghost use Rattle.session.specs.Calls.{endInput, fresh, goneThrough, inputTold, isQuit, noRecord, recordOf, recordedPlace, remains, toldSession};
 ghost use Rattle.session.specs.Sound.{closed};
-ghost use Rattle.searcher.specs.Door.{closedBy, doorAnswered, doorOffered, doorOpened, doorTold, placeFlag, placeOffset, searcher, unrecordedBy};
+ghost use Rattle.searcher.specs.Door.{closedBy, placeFlag, placeOffset, unrecordedBy};
+ghost use Rattle.searcher.specs.Outcomes.{Answers, Closes, Offers, Opens, Records, Shows, TellsEnd, Waits};
 
 pub struct Searcher {
     pub session: Session,
@@ -52,7 +53,7 @@ pub struct Told {
 impl Searcher {
     // The searcher that answers 6 to everything.
     pub fn closed() -> Searcher
-        ensures { λ r. ⌜ r ≡ searcher closed ⌝ }
+        ensures { λ r. ⌜ Closes r ⌝ }
     {
         let s = closed_session();
         Searcher { session: s }
@@ -60,7 +61,7 @@ impl Searcher {
 
     // Opens a search with a window of a length; refusals 1 and 2.
     pub fn open(settings: Settings, window: usize) -> Opened
-        ensures { λ r. ⌜ r ≡ doorOpened (opened settings window) ⌝ }
+        ensures { λ r. ⌜ Opens settings window r ⌝ }
     {
         if !held::are_allowed(settings) {
             return refused(1);
@@ -78,8 +79,7 @@ impl Searcher {
 
     // Takes in what of a piece has room; refusals 3, 5 and 6.
     pub fn offer(self, window: &mut [u8], piece: &[u8]) -> Offered
-        ensures { λ r. ⌜ r ≡ doorOffered (offered (self .session) (now (window .entry)) (now (piece .entry))) ⌝ }
-        ensures { λ _. ⌜ now (window .exit) ≡ offeredWindow (self .session) (now (window .entry)) (now (piece .entry)) ⌝ }
+        ensures { λ r. ⌜ Offers self (now (window .entry)) (now (piece .entry)) r (now (window .exit)) ⌝ }
     {
         let s = self.session;
         let o = offering::offer(s, window, piece);
@@ -94,7 +94,7 @@ impl Searcher {
 
     // Tells whether a line waits, or refusal 6.
     pub fn waiting(self, window: &[u8]) -> Waiting
-        ensures { λ r. ⌜ r ≡ waiting (self .session) (now (window .entry)) ⌝ }
+        ensures { λ r. ⌜ Waits self (now (window .entry)) r ⌝ }
     {
         let s = self.session;
         if !held::is_sound(s, window.len()) {
@@ -108,7 +108,7 @@ impl Searcher {
 
     // Shows the waiting line, without its terminator, as a part of the window itself; empty where none waits.
     pub fn line(self, window: &[u8]) -> &[u8]
-        ensures { λ r. ⌜ now r ≡ shownLine (self .session) (now (window .entry)) ⌝ }
+        ensures { λ r. ⌜ Shows self (now (window .entry)) (now r) ⌝ }
     {
         let s = self.session;
         if !held::is_sound(s, window.len()) {
@@ -127,8 +127,7 @@ impl Searcher {
 
     // Answers the waiting line: its rows go into the table from its front; refusals 4 and 6.
     pub fn answer(self, window: &[u8], table: &mut [u64], hit: bool) -> Answered
-        ensures { λ r. ⌜ r ≡ doorAnswered (answered (self .session) (now (window .entry)) (now (table .entry)) hit) ⌝ }
-        ensures { λ _. ⌜ now (table .exit) ≡ answeredTable (self .session) (now (window .entry)) (now (table .entry)) hit ⌝ }
+        ensures { λ r. ⌜ Answers self (now (window .entry)) (now (table .entry)) hit r (now (table .exit)) ⌝ }
     {
         let s = self.session;
         let a = answering::answer(s, window, table, hit);
@@ -143,7 +142,7 @@ impl Searcher {
 
     // Tells the end of the input; refusal 6.
     pub fn tell_end(self) -> Told
-        ensures { λ r. ⌜ r ≡ doorTold (told (self .session)) ⌝ }
+        ensures { λ r. ⌜ TellsEnd self r ⌝ }
     {
         let s = self.session;
         if !held::agree(s) {
@@ -162,7 +161,7 @@ impl Searcher {
 
     // The end record, once nothing remains; refusals 6 and 7.
     pub fn end_record(self) -> Recorded
-        ensures { λ r. ⌜ r ≡ recorded (self .session) ⌝ }
+        ensures { λ r. ⌜ Records self r ⌝ }
     {
         let s = self.session;
         if !held::agree(s) {

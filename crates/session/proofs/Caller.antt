@@ -28,7 +28,7 @@ use Rattle.session.specs.declared.Offering.the-variants.{OfferRefused, I
 use Rattle.session.specs.declared.Session.{Session}
 use Rattle.session.specs.declared.Waiting.{Waiting}
 use Rattle.session.specs.declared.Waiting.the-variants.{LineWaits, NoneWaits, WaitingRefused}
-use Rattle.session.specs.Calls.{answerAnswer, answerRows, answerSession, answerTable, answered, answeredTable, answering, beforeQuit, belowOne, idle, inputTold, offerAnswer, offerWindow, offered, offeredWindow, offering, opened, opening, putRows, quitFront, recorded, recording, remains, shownLine, shownWhere, stepped, stored, taking, told, toldSession, waiting}
+use Rattle.session.specs.Calls.{answerAnswer, answerRows, answerSession, answerTable, answered, answeredTable, answering, beforeQuit, belowOne, idle, inputTold, offerAnswer, offerWindow, offered, offeredWindow, offering, opened, opening, putRows, quitFront, recorded, recording, remains, shownLine, shownWhere, stepped, stored, taking, told, toldSession, waiting, waitingRefusal}
 use Rattle.session.specs.Caller.{waitingIn, unfinishedIn, waitingBytes, unfinishedBytes, wholeBytes, loneBytes, Reached, opens, offers, answers, tells, Agreeing, Answers, Balance, NothingTwice, Offers, OfferServed, Others, Progress, RefusalsChangeNothing, RowsStay, WhenAndOnlyThen, WindowStays}
 use Rattle.session.specs.Held.{heldBytes, isOn, isOpen, keptFrom, lineBytes, shown, unanswered, waits}
 use Rattle.session.specs.Sound.{Agree, agrees, closed, sound, takenBytes, tests}
@@ -36,7 +36,7 @@ use Rattle.session.proofs.Agree.{agrees-of}
 use Rattle.session.proofs.Carry.{busy, fitting-some, front-quits, not-front}
 use Rattle.session.proofs.Cases.{OfferCase, unsound, idling, quits, sized, full, takes, offer-case, offer-only, answer-only, AnswerCase, few, gives, none, below, answer-case}
 use Rattle.session.proofs.Cases as Cases
-use Rattle.session.proofs.History.{answerRows-most}
+use Rattle.session.proofs.History.{answer-unchanged, answerRows-most}
 use Rattle.session.proofs.Invariant.{unanswered-length}
 use Rattle.session.proofs.Keeps.{GivenIf, TakenIf, answer-given, offer-taken, line-le, agree-answer, agree-offer, agree-opened, agree-told, served-fresh}
 use Rattle.session.proofs.Taking.{stored-beyond, stored-length}
@@ -59,11 +59,6 @@ offer-unchanged : (o : Offering) (s : Session) (w piece : List ℕ) → (offerAn
 offer-unchanged (OfferRefused k) s w piece h = (refl, refl, refl)
 offer-unchanged Idle s w piece h = (refl, refl, refl)
 offer-unchanged (Take n quit) s w piece h = absurd (h refl)
-
-answer-unchanged : (o : Answering) (s : Session) (w table : List ℕ) (hit : Bool) → (answerAnswer o s w hit .refusal ≡ 0 → ⊥)
-    → (answerAnswer o s w hit .session ≡ s) × (answerAnswer o s w hit .rows ≡ 0) × (answerTable o s w table hit ≡ table)
-answer-unchanged (AnswerRefused k) s w table hit h = (refl, refl, refl)
-answer-unchanged Give s w table hit h = absurd (h refl)
 
 tell-unchanged : (b : Bool) (s : Session) → (_≡_ {A = ℕ} (cond b 0 6) 0 → ⊥) → cond b (toldSession s) s ≡ s
 tell-unchanged true s h = absurd (h refl)
@@ -191,6 +186,11 @@ out-of-range n = (
   λ h. ⊎-elim (λ z. rw (le-ltb 0 n (omega arith))) (λ k. rw (lt-leb n maxWindow k) (and-false (ltb 0 n))) h,
 )
 
+refused-6 : (x y : Bool) → (waitingRefusal (cond x (cond y LineWaits NoneWaits) WaitingRefused) ≡ 6) ↔ (x ≡ false)
+refused-6 true true = (λ e. absurd (omega (arith, e)), λ e. absurd (true≢false e))
+refused-6 true false = (λ e. absurd (omega (arith, e)), λ e. absurd (true≢false e))
+refused-6 false y = (λ e. refl, λ e. refl)
+
 others-when : (s : Session) (w : List ℕ) (c : Settings) (window : ℕ) → Others s w c window
 unfolding opened opening waiting told recorded recording
 others-when s w c window =
@@ -208,7 +208,7 @@ others-when s w c window =
         λ e. let h = o .first .0 e in let n = in-range window .0 (h .1) in (h .0, n .0, n .1),
         λ h. o .first .1 (h .0, in-range window .1 (h .1, h .2)),
       );
-      waiting-6 = q .last;
+      waiting-6 = refused-6 (sound s (length w)) (waits s w);
       waiting-line = q .first;
       telling-6 = t .last;
       telling-0 = (λ e. t .first .0 e .0, λ e. t .first .1 (e, refl));

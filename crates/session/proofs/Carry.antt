@@ -247,7 +247,7 @@ module _ (input : List ℕ) (answers : ℕ → Bool) (a : At) (i : InvAt input a
       (offer-falls input answers s w (a .rest) (a .count) (a .rows) i h v n g l k refl _ (offer-case s w (take k (a .rest))))
 
   tell-turn : a .session .input ≡ Open → a .session .going ≡ On → a .rest ≡ [] → Lighter answers a
-  tell-turn n g e = (atEnd a, tell e here, told-falls input answers (a .session) (a .window) (a .rest) (a .count) (a .rows) i n g)
+  tell-turn n g e = (atEnd a, tell (λ _ _. e) here, told-falls input answers (a .session) (a .window) (a .rest) (a .count) (a .rows) i n g)
 
   turn : Ends a ⊎ (NoRoom a ⊎ Lighter answers a)
   turn = go (waits (a .session) (a .window)) refl (isOn (a .session .going)) refl (isOpen (a .session .input)) refl (a .rest) refl

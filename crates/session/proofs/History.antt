@@ -32,10 +32,10 @@ use Rattle.session.specs.declared.Offering.the-variants.{OfferRefused, I
 use Rattle.session.specs.declared.Session.{Session}
 use Rattle.session.specs.declared.Waiting.the-variants.{LineWaits, NoneWaits, WaitingRefused}
 use Rattle.session.specs.Calls as Calls
-use Rattle.session.specs.Calls.{answerAnswer, answerRows, answerSession, answered, answeredTable, beforeRows, belowOne, answering, fresh, inputTold, offerAnswer, offerWindow, offered, offeredWindow, offering, opening, putRows, replacedIn, stepped, stored, told, toldSession, waiting}
+use Rattle.session.specs.Calls.{answerAnswer, answerRows, answerSession, answerTable, answered, answeredTable, beforeRows, belowOne, answering, fresh, inputTold, offerAnswer, offerWindow, offered, offeredWindow, offering, opening, putRows, replacedIn, stepped, stored, told, toldSession, waiting}
 use Rattle.session.specs.Held.{backFrom, shown, sinceLines, unanswered, waits}
 use Rattle.session.specs.Promises.{keptBefore}
-use Rattle.session.specs.Run.{At, Run, Steps, here, offer, answer, ask, tell, atStart, rowsIn}
+use Rattle.session.specs.Run.{At, Run, Steps, here, offer, answer, ask, refused, tell, atStart, rowsIn}
 use Rattle.session.specs.Sound.{agrees, sound}
 use Rattle.session.proofs.Agree.{agrees-of}
 use Rattle.session.proofs.Cases.{few}
@@ -43,6 +43,12 @@ use Rattle.session.proofs.Giving.{inv-given, rowsIn-put, text-none}
 use Rattle.session.proofs.Invariant.{Inv, InputNow, sound-now}
 use Rattle.session.proofs.Keeps.{TakenIf, offer-taken, agree-fresh, agree-toldSession, served-fresh}
 use Rattle.session.proofs.Taking.{inv-taken}
+
+-- a refused answer changes nothing
+pub answer-unchanged : (o : Answering) (s : Session) (w table : List ℕ) (hit : Bool) → (answerAnswer o s w hit .refusal ≡ 0 → ⊥)
+    → (answerAnswer o s w hit .session ≡ s) × (answerAnswer o s w hit .rows ≡ 0) × (answerTable o s w table hit ≡ table)
+answer-unchanged (AnswerRefused k) s w table hit h = (refl, refl, refl)
+answer-unchanged Give s w table hit h = absurd (h refl)
 
 -- # Opening
 
@@ -157,16 +163,22 @@ module _ (input : List ℕ) (answers : ℕ → Bool) (s : Session) (w rest : Lis
       let v = waiting-line s w e .1 in
       rw (answer-gives (length table) hit v r, rowsIn-table (answerRows s w hit) table) (inv-given input answers s w rest count given i v)
 
+  pub inv-refused : (table : List ℕ) (hit : Bool) → (answered s w table hit .refusal ≡ 0 → ⊥)
+      → Inv input answers (answered s w table hit .session) w rest count given
+  unfolding answered
+  inv-refused table hit n =
+      subst (λ x. Inv input answers x w rest count given) (sym (answer-unchanged (answering s w (length table) hit) s w table hit n .0)) i
+
   -- # Telling the end
 
-  told-now : (g : Going) (n : Input) → rest ≡ [] → InputNow (s .settings) n rest → InputNow (s .settings) (inputTold g n) rest
-  told-now On Open e h = e
+  told-now : (g : Going) (n : Input) → (g ≡ On → n ≡ Open → rest ≡ []) → InputNow (s .settings) n rest → InputNow (s .settings) (inputTold g n) rest
+  told-now On Open e h = e refl refl
   told-now On Ended e h = h
   told-now On QuitFound e h = h
   told-now LimitMet n e h = h
   told-now NonmatchMet n e h = h
 
-  inv-toldSession : rest ≡ [] → Inv input answers (toldSession s) w rest count given
+  inv-toldSession : (s .going ≡ On → s .input ≡ Open → rest ≡ []) → Inv input answers (toldSession s) w rest count given
   unfolding toldSession unanswered shown sinceLines
   inv-toldSession e =
       record {
@@ -189,7 +201,7 @@ module _ (input : List ℕ) (answers : ℕ → Bool) (s : Session) (w rest : Lis
         input-now = told-now (s .going) (s .input) e (i .input-now);
       }
 
-  pub inv-told : rest ≡ [] → Inv input answers (told s .session) w rest count given
+  pub inv-told : (s .going ≡ On → s .input ≡ Open → rest ≡ []) → Inv input answers (told s .session) w rest count given
   unfolding told
   inv-told e =
       subst (λ b. Inv input answers (cond b (toldSession s) s) w rest count given) (sym (agrees-of s (i .agree))) (inv-toldSession e)
@@ -206,6 +218,8 @@ inv-steps input answers from _ i (offer {a = b} k t) =
 inv-steps input answers from _ i (answer {a = b} table e r t) =
     inv-answer input answers (b .session) (b .window) (b .rest) (b .count) (b .rows) (inv-steps input answers from b i t) table e r
 inv-steps input answers from _ i (ask {a = b} t) = inv-steps input answers from b i t
+inv-steps input answers from _ i (refused {a = b} table hit n t) =
+    inv-refused input answers (b .session) (b .window) (b .rest) (b .count) (b .rows) (inv-steps input answers from b i t) table hit n
 inv-steps input answers from _ i (tell {a = b} e t) =
     inv-told input answers (b .session) (b .window) (b .rest) (b .count) (b .rows) (inv-steps input answers from b i t) e
 
@@ -221,6 +235,7 @@ join answers from a _ t here = t
 join answers from a _ t (offer {a = b} k u) = offer k (join answers from a b t u)
 join answers from a _ t (answer {a = b} table e r u) = answer table e r (join answers from a b t u)
 join answers from a _ t (ask {a = b} u) = ask (join answers from a b t u)
+join answers from a _ t (refused {a = b} table hit n u) = refused table hit n (join answers from a b t u)
 join answers from a _ t (tell {a = b} e u) = tell e (join answers from a b t u)
 
 -- # Settings and window length stay
@@ -256,6 +271,10 @@ steps-stay answers from _ (answer {a = b} table e r t) =
     let o = answer-settings (answering (b .session) (b .window) (length table) (answers (b .count + 1))) (b .session) (b .window) (answers (b .count + 1)) in
     (o .0 ∙ h .0, o .1 ∙ h .1)
 steps-stay answers from _ (ask {a = b} t) = steps-stay answers from b t
+steps-stay answers from _ (refused {a = b} table hit n t) =
+    let h = steps-stay answers from b t in
+    let o = answer-settings (answering (b .session) (b .window) (length table) hit) (b .session) (b .window) hit in
+    (o .0 ∙ h .0, o .1 ∙ h .1)
 steps-stay answers from _ (tell {a = b} e t) =
     let h = steps-stay answers from b t in
     let o = told-settings (agrees (b .session)) (b .session) in

@@ -1,13 +1,13 @@
 -- The promises of specs/Promises.antt, from the invariant.
 use Prim.Native.Nat.{ℕ, _+_, _-_, _≤_}
-use mathlib.Core.Path.{_≡_, sym, _∙_, ap, subst}
+use mathlib.Core.Path.{_≡_, refl, sym, _∙_, ap, subst}
 use mathlib.Core.Bool.{Bool, true, false, cond}
-use mathlib.Core.List.{List, _∷_, _++_, append-nil}
+use mathlib.Core.List.{List, _∷_, _++_, append-nil, flatten}
 use mathlib.Core.Logic.{_⊎_, inl, inr, ⊎-elim}
 use native.Mathlib.Decide.{decLe}
 use native.Mathlib.Omega.{arith}
 use lib.ListN.{length, take, drop, length-take}
-use lib.Seq.{take-take}
+use lib.Seq.{drop-at, take-take}
 use Rattle.definition.specs.declared.Row.{Row}
 use Rattle.definition.specs.declared.Settings.{Settings}
 use Rattle.definition.specs.Definition.{endOf, endRecord, goneLines, rowsOf}
@@ -18,10 +18,10 @@ use Rattle.definition.proofs.Kept.{rows-append}
 use Rattle.definition.proofs.Same.{same-end, same-lines, same-rows}
 use Rattle.definition.proofs.Terminator.{first-le, handed-next}
 use Rattle.session.specs.declared.Session.{Session}
-use Rattle.session.specs.declared.Waiting.the-variants.{LineWaits, NoneWaits, WaitingRefused}
-use Rattle.session.specs.Calls.{answered, offered, recorded, shownLine, waiting}
+use Rattle.session.specs.declared.Waiting.the-variants.{LineWaits, NoneWaits}
+use Rattle.session.specs.Calls.{answered, offered, recorded, shownLine, waiting, waitingRefusal}
 use Rattle.session.specs.Held.{lineBytes, lineLength, shown, unanswered, waits}
-use Rattle.session.specs.Promises.{Begins, Beginning, Prompt, Cut, Ends, Finished, Handed, Memory, NoRoom, Room, Served, TooLong, Within}
+use Rattle.session.specs.Promises.{Account, Asked, Begins, Beginning, Prompt, Cut, Ends, Finished, Handed, Memory, NoRoom, Room, Served, TooLong, Within, answersOf}
 use Rattle.session.specs.Run.{At, Run, Steps}
 use Rattle.session.specs.Sound.{sound}
 use Rattle.session.proofs.Carry.{carried, offer-served, record-served, told-served}
@@ -29,7 +29,7 @@ use Rattle.session.proofs.Cases.{offer-case}
 use Rattle.session.proofs.Finish.{record-same, rows-done, served-done, served-record, state-done}
 use Rattle.session.proofs.Giving.{line, lines-now}
 use Rattle.session.proofs.History.{answer-gives, inv-run, run-on, run-settings, steps-stay, waiting-line}
-use Rattle.session.proofs.Invariant.{Inv, sound-now}
+use Rattle.session.proofs.Invariant.{Inv, sound-now, taken-is}
 use Rattle.session.proofs.Room.{cut-shorter, not-ended, not-past, same-count, too-long}
 
 -- the part shown is the waiting line without its terminator
@@ -122,6 +122,41 @@ handed-line c input answers a r e =
     × (shownLine (a .session) (a .window) ≡ handed (x .terminator) l)) (run-settings c input answers a r)
     (handed-inv input answers (a .session) (a .window) (a .rest) (a .count) (a .rows) i e)
 
+-- the line after some others
+line-after : (before : List (List ℕ)) (l : List ℕ) (later : List (List ℕ)) (n : ℕ) → length before ≡ n
+    → flatten (take 1 (drop (n + 1 - 1) (before ++ (l ∷ later)))) ≡ l
+unfolding flatten
+line-after before l later n e =
+    let m : n + 1 - 1 ≡ n = omega arith in
+    rw (m, drop-at before (l ∷ later) n e) (append-nil l)
+
+pub asked : Asked
+unfolding answersOf
+asked matcher c input a r e =
+    let h = handed-line c input (answersOf matcher c input) a r e in
+    let t = c .terminator in
+    ap (λ (x : List (List ℕ)). matcher (handed t (flatten (take 1 (drop (a .count + 1 - 1) x))))) (h .3)
+    ∙ ap (λ (l : List ℕ). matcher (handed t l)) (line-after (h .0) (h .1) (h .2) (a .count) (h .4))
+    ∙ ap matcher (sym (h .5))
+
+pub account : Account
+account c input answers a r =
+    let i = inv-run c input answers a r in
+    let same = run-settings c input answers a r in
+    let s = a .session in
+    record {
+      settings-stay = same;
+      past = i .past;
+      input-is = i .input-is;
+      taken-is = taken-is input answers s (a .window) (a .rest) (a .count) (a .rows) i;
+      gone = i .gone;
+      later = _;
+      lines-are = subst (λ (x : Settings). lines (x .terminator) (text x input) ≡ i .gone ++ lines (x .terminator) (unanswered s (a .window) ++ text x (a .rest))) same (i .lines-are);
+      count-is = sym (i .count-is);
+      bytes-are = i .bytes-is;
+      text-is = subst (λ (x : Settings). text x (i .past) ≡ flatten (i .gone) ++ unanswered s (a .window)) same (i .text-is);
+    }
+
 -- # Carried on
 
 module _ (c : Settings) (input : List ℕ) (answers : ℕ → Bool) (a : At) (r : Run c input answers a) (h : Within c input) where
@@ -182,13 +217,13 @@ room c input answers a r =
         ))
         (x .4)
 
-asked : (s : Session) (w : List ℕ) → sound s (length w) ≡ true → waiting s w ≡ WaitingRefused → ⊥
+not-refused : (s : Session) (w : List ℕ) → sound s (length w) ≡ true → waitingRefusal (waiting s w) ≡ 0
 unfolding waiting
-asked s w e = rw e (go (waits s w))
+not-refused s w e = rw e (go (waits s w))
   where
-    go : (b : Bool) → cond b LineWaits NoneWaits ≡ WaitingRefused → ⊥
-    go true k = let z : _≡_ {A = ℕ} 0 1 = cc in omega arith
-    go false k = let z : _≡_ {A = ℕ} 0 1 = cc in omega arith
+    go : (b : Bool) → waitingRefusal (cond b LineWaits NoneWaits) ≡ 0
+    go true = refl
+    go false = refl
 
 pub served : Served
 unfolding offered answered
@@ -199,7 +234,7 @@ served c input answers a r h =
     let within = subst (λ x. Within x input) (sym (run-settings c input answers a r)) h in
     record {
       offers = λ k. offer-served input answers s w (a .rest) (a .count) (a .rows) i within k _ (offer-case s w (take k (a .rest)));
-      asks = asked s w (sound-now input answers s w (a .rest) (a .count) (a .rows) i);
+      asks = not-refused s w (sound-now input answers s w (a .rest) (a .count) (a .rows) i);
       answering = λ table hit e room.
           rw (answer-gives input answers s w (a .rest) (a .count) (a .rows) i (length table) hit (waiting-line s w e .1) room);
       tells = told-served input answers s w (a .rest) (a .count) (a .rows) i;

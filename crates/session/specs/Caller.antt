@@ -15,7 +15,7 @@ use Rattle.definition.specs.Rows.{rowSize}
 use Rattle.definition.specs.Text.{firstPlace, lines}
 use Rattle.session.specs.declared.Input.the-variants.{Open, QuitFound}
 use Rattle.session.specs.declared.Session.{Session}
-use Rattle.session.specs.declared.Waiting.the-variants.{LineWaits, WaitingRefused}
+use Rattle.session.specs.declared.Waiting.the-variants.{LineWaits}
 use Rattle.session.specs.Calls.{answerRows, answered, answeredTable, belowOne, idle, noRecord, offered, offeredWindow, opened, quitFront, recorded, remains, shownLine, told, waiting, waitingRefusal}
 use Rattle.session.specs.Held.{heldBytes, isOn, isOpen, unanswered, waits}
 use Rattle.session.specs.Sound.{agrees, closed, sound, takenBytes}
@@ -96,7 +96,7 @@ pub record Others (s : Session) (w : List ℕ) (c : Settings) (window : ℕ) : T
   pub opening-1 : (opened c window .refusal ≡ 1) ↔ (allowed c ≡ false)
   pub opening-2 : (opened c window .refusal ≡ 2) ↔ ((allowed c ≡ true) × ((window ≡ 0) ⊎ (maxWindow < window)))
   pub opening-0 : (opened c window .refusal ≡ 0) ↔ ((allowed c ≡ true) × (0 < window) × (window ≤ maxWindow))
-  pub waiting-6 : (waiting s w ≡ WaitingRefused) ↔ (sound s (length w) ≡ false)
+  pub waiting-6 : (waitingRefusal (waiting s w) ≡ 6) ↔ (sound s (length w) ≡ false)
   pub waiting-line : (waiting s w ≡ LineWaits) ↔ ((sound s (length w) ≡ true) × (waits s w ≡ true))
   pub telling-6 : (told s .refusal ≡ 6) ↔ (agrees s ≡ false)
   pub telling-0 : (told s .refusal ≡ 0) ↔ (agrees s ≡ true)

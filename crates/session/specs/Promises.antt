@@ -1,11 +1,11 @@
 -- The promises to the caller of demand 3, over every run. Each is a statement; its proof, under the same name in small letters
 -- (`handed-line` for Handed), stands in proofs/Promises.antt.
-use Prim.Native.Nat.{ℕ, _+_, _*_, _≤_, _<_}
+use Prim.Native.Nat.{ℕ, _+_, _-_, _*_, _≤_, _<_}
 use mathlib.Core.Path.{_≡_}
 use mathlib.Core.Bool.{Bool}
-use mathlib.Core.List.{List, _∷_, _++_}
+use mathlib.Core.List.{List, _∷_, _++_, flatten}
 use mathlib.Core.Logic.{_⊎_}
-use lib.ListN.{length, take}
+use lib.ListN.{length, take, drop}
 use Rattle.definition.specs.declared.Row.{Row}
 use Rattle.definition.specs.declared.Going.the-variants.{On}
 use Rattle.definition.specs.declared.Settings.{Settings}
@@ -13,9 +13,11 @@ use Rattle.definition.specs.Bounds.{maxInput}
 use Rattle.definition.specs.Definition.{bytesOf, endOf, goneLines, keptPart, rowsOf}
 use Rattle.definition.specs.Rows.{rowSize}
 use Rattle.definition.specs.Text.{handed, lines, text}
-use Rattle.session.specs.declared.Waiting.the-variants.{LineWaits, WaitingRefused}
-use Rattle.session.specs.Calls.{answered, offered, recorded, shownLine, told, waiting}
+use Rattle.session.specs.declared.Waiting.the-variants.{LineWaits}
+use Rattle.session.specs.Calls.{answered, offered, recorded, shownLine, told, waiting, waitingRefusal}
+use Rattle.session.specs.Held.{unanswered}
 use Rattle.session.specs.Run.{At, Run, Steps}
+use Rattle.session.specs.Sound.{takenBytes}
 
 -- the end record is served
 abbrev pub Ends : At → Type 0
@@ -72,6 +74,39 @@ Handed =
     × (length before ≡ a .count)
     × (shownLine (a .session) (a .window) ≡ handed (c .terminator) line)
 
+-- what a matcher says of the lines as handed to it: a yes or no by line number
+unfoldable pub answersOf : (List ℕ → Bool) → Settings → List ℕ → ℕ → Bool
+answersOf matcher c input n =
+    matcher (handed (c .terminator) (flatten (take 1 (drop (n - 1) (lines (c .terminator) (text c input))))))
+
+-- Asked. So a caller may answer by a matcher, asked about each part shown: that is the answer to the line of that number.
+abbrev pub Asked : Type 0
+Asked =
+    (matcher : List ℕ → Bool) (c : Settings) (input : List ℕ) (a : At) → Run c input (answersOf matcher c input) a
+    → waiting (a .session) (a .window) ≡ LineWaits
+    → answersOf matcher c input (a .count + 1) ≡ matcher (shownLine (a .session) (a .window))
+
+-- # The history
+
+-- every byte taken by one moment of a run: first the lines gone through, then what the window holds unanswered
+pub record Accounts (c : Settings) (input : List ℕ) (a : At) : Type 0 where
+  pub settings-stay : a .session .settings ≡ c
+  -- the bytes taken
+  pub past : List ℕ
+  pub input-is : input ≡ past ++ a .rest
+  pub taken-is : takenBytes (a .session) ≡ length past
+  -- the lines gone through
+  pub gone : List (List ℕ)
+  pub later : List (List ℕ)
+  pub lines-are : lines (c .terminator) (text c input) ≡ gone ++ later
+  pub count-is : length gone ≡ a .count
+  pub bytes-are : a .session .bytes ≡ length (flatten gone)
+  pub text-is : text c past ≡ flatten gone ++ unanswered (a .session) (a .window)
+
+-- Account. "counted from the history while the caller leaves the window untouched": no byte taken is lost, doubled or out of its place.
+abbrev pub Account : Type 0
+Account = (c : Settings) (input : List ℕ) (answers : ℕ → Bool) (a : At) → Run c input answers a → Accounts c input a
+
 -- # Room
 
 -- "kept bytes before j": of the lines before a line, the bytes of those kept
@@ -122,7 +157,7 @@ pub record Serves (answers : ℕ → Bool) (a : At) : Type 0 where
       (k : ℕ)
       → (offered (a .session) (a .window) (take k (a .rest)) .refusal ≡ 0)
       ⊎ (offered (a .session) (a .window) (take k (a .rest)) .refusal ≡ 3)
-  pub asks : waiting (a .session) (a .window) ≡ WaitingRefused → ⊥
+  pub asks : waitingRefusal (waiting (a .session) (a .window)) ≡ 0
   pub answering :
       (table : List ℕ) (hit : Bool) → waiting (a .session) (a .window) ≡ LineWaits
       → rowSize * (a .session .settings .before + 2) ≤ length table → answered (a .session) (a .window) table hit .refusal ≡ 0

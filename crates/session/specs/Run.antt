@@ -5,8 +5,10 @@ use mathlib.Core.Bool.{Bool}
 use mathlib.Core.List.{List, [], _∷_, _++_}
 use lib.ListN.{length, take, drop, getD}
 use Rattle.definition.specs.declared.Row.{Row}
+use Rattle.definition.specs.declared.Going.the-variants.{On}
 use Rattle.definition.specs.declared.Settings.{Settings}
 use Rattle.definition.specs.Rows.{rowSize}
+use Rattle.session.specs.declared.Input.the-variants.{Open}
 use Rattle.session.specs.declared.Session.{Session}
 use Rattle.session.specs.declared.Waiting.the-variants.{LineWaits}
 use Rattle.session.specs.Calls.{opened, offered, offeredWindow, waiting, answered, answeredTable, told}
@@ -58,6 +60,17 @@ atAnswer answers table a =
           (answeredTable (a .session) (a .window) table (answers (a .count + 1)));
     }
 
+-- an answer that is refused, as by 6 where no line waits: a caller may ask by answering
+abbrev pub atRefused : List ℕ → Bool → At → At
+atRefused table hit a =
+    record {
+      session = answered (a .session) (a .window) table hit .session;
+      window = a .window;
+      rest = a .rest;
+      count = a .count;
+      rows = a .rows;
+    }
+
 -- "told of the end"
 abbrev pub atEnd : At → At
 atEnd a =
@@ -69,15 +82,17 @@ atEnd a =
       rows = a .rows;
     }
 
--- What the caller may do from one moment on: offer any part of what is left; answer the waiting line, with room for B + 2 rows;
--- ask, which changes nothing; tell the end when nothing is left.
+-- What the caller may do from one moment on: offer any part of what is left; answer the waiting line, with room for B + 2 rows; ask,
+-- which changes nothing; answer what is refused; tell the end, but while the run goes on and the input is open only when nothing is left.
 pub data Steps (answers : ℕ → Bool) (from : At) : At → Type 0 where
   here : Steps answers from from
   offer : {a : At} (k : ℕ) → Steps answers from a → Steps answers from (atOffer k a)
   answer : {a : At} (table : List ℕ) → waiting (a .session) (a .window) ≡ LineWaits
       → rowSize * (a .session .settings .before + 2) ≤ length table → Steps answers from a → Steps answers from (atAnswer answers table a)
   ask : {a : At} → Steps answers from a → Steps answers from a
-  tell : {a : At} → a .rest ≡ [] → Steps answers from a → Steps answers from (atEnd a)
+  refused : {a : At} (table : List ℕ) (hit : Bool) → (answered (a .session) (a .window) table hit .refusal ≡ 0 → ⊥)
+      → Steps answers from a → Steps answers from (atRefused table hit a)
+  tell : {a : At} → (a .session .going ≡ On → a .session .input ≡ Open → a .rest ≡ []) → Steps answers from a → Steps answers from (atEnd a)
 
 -- A run: any settings and a window of any length and contents, if the opening is served, and then such steps.
 pub record Run (c : Settings) (input : List ℕ) (answers : ℕ → Bool) (a : At) : Type 0 where
