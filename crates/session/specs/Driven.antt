@@ -7,13 +7,13 @@ use mathlib.Core.List.{List, [], _∷_, _++_, map}
 use lib.Dec.{eqb}
 use lib.ListN.{length, take, drop, replicate}
 use Rattle.definition.specs.declared.Row.{Row}
-use Rattle.definition.specs.declared.Binary.the-variants.{Quit, Convert}
+use Rattle.definition.specs.declared.Binary.the-variants.{Ignore, Quit, Convert}
 use Rattle.definition.specs.declared.End.{End}
 use Rattle.definition.specs.declared.Going.the-variants.{On}
 use Rattle.definition.specs.declared.Limit.the-variants.{Unlimited, Most}
 use Rattle.definition.specs.declared.Place.the-variants.{Nowhere}
 use Rattle.definition.specs.declared.Settings.{Settings}
-use Rattle.definition.specs.Bounds.{maxInput}
+use Rattle.definition.specs.Bounds.{maxInput, maxLimit}
 use Rattle.definition.specs.Examples.{Example, answersAt, context, settings, r, e, N, all, P}
 use Rattle.definition.specs.Rows.{rowSize}
 use Rattle.session.specs.declared.Input.the-variants.{Open}
@@ -178,8 +178,19 @@ Refusals =
     (start (context 1000 0) ∷ start (context 1001 0) ∷ show ∷ try (context 0 0) 65536 ∷ try (context 0 0) 65537 ∷ [])
     (heard 0 ∷ heard 1 ∷ showed 6 [] ∷ heard 0 ∷ heard 2 ∷ [])
     ∷ script []
-    (start (context 1001 0) ∷ start (context 0 0) ∷ offer T3 ∷ answer true 8 ∷ tell ∷ ask ∷ [])
-    (heard 1 ∷ heard 2 ∷ took 6 0 [] ∷ gave 6 [] (nines 8) ∷ heard 6 ∷ ended 6 noRecord ∷ [])
+    (start (context 1001 0) ∷ start (context 0 0) ∷ offer T3 ∷ offer [] ∷ answer true 8 ∷ tell ∷ ask ∷ [])
+    (heard 1 ∷ heard 2 ∷ took 6 0 [] ∷ took 6 0 [] ∷ gave 6 [] (nines 8) ∷ heard 6 ∷ ended 6 noRecord ∷ [])
+    -- A and the limit at their bounds and past them; pass-through with context before or after
+    ∷ script (sevens 1)
+    (try (context 0 1000) 1
+    ∷ try (context 0 1001) 1
+    ∷ try (settings 0 0 false false false (Most maxLimit) Ignore) 1
+    ∷ try (settings 0 0 false false false (Most (maxLimit + 1)) Ignore) 1
+    ∷ try (settings 0 0 false true false Unlimited Ignore) 1
+    ∷ try (settings 1 0 false true false Unlimited Ignore) 1
+    ∷ try (settings 0 1 false true false Unlimited Ignore) 1
+    ∷ [])
+    (heard 0 ∷ heard 1 ∷ heard 0 ∷ heard 1 ∷ heard 0 ∷ heard 1 ∷ heard 1 ∷ [])
     -- no line waits; a window of another length
     ∷ script (sevens 2)
     (start (context 0 0) ∷ answer true 8 ∷ alter (sevens 3) ∷ offer T3 ∷ show ∷ answer true 8 ∷ alter (sevens 2) ∷ offer T3 ∷ show ∷ [])
