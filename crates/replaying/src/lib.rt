@@ -37,6 +37,7 @@ pub fn play() {
     run(&mut room, &mut table, &mut bytes, &mut input, &mut out);
 }
 
+// Turns are a bound for the proof: nothing lasts so long.
 fn run(room: &mut [u8], table: &mut [u64], bytes: &mut [u8], input: &mut [u8], out: &mut [u8]) {
     let mut now = Turn {
         state: command::start(),

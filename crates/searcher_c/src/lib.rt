@@ -72,7 +72,7 @@ pub extern "C" fn searcher_search(
 }
 
 // The loop of the program `search`, over a text in memory. The one call each of line, answer and offer is here or below, so
-// that they are compiled into the loop.
+// that they are compiled into the loop. Turns are a bound for the proof: nothing lasts so long.
 fn search_text(
     searcher: Searcher,
     text: &[u8],

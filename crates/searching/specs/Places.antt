@@ -1,10 +1,11 @@
 -- Where the two first lines and the pieces of the text lie in the input's buffer.
-use Prim.Native.Nat.{ℕ, _+_, _≤_, _<_}
+use Prim.Native.Nat.{ℕ, _+_, _-_, _≤_, _<_}
 use mathlib.Core.Bool.{cond}
+use mathlib.Core.Path.{_≡_}
 use mathlib.Core.List.{List}
 use lib.Dec.{leb, ltb}
 use lib.ListN.{length}
-use Rattle.definition.specs.Text.{firstPlace}
+use Rattle.definition.specs.Text.{firstPlace, part}
 use Rattle.searching.specs.declared.Fed.{Fed}
 use Rattle.searching.specs.declared.Next.{Next}
 use Rattle.searching.specs.declared.Next.the-variants as next
@@ -26,9 +27,14 @@ lookedAt bytes =
     (cond (ltb (firstPlace newline bytes) (length bytes)) (Whole (firstPlace newline bytes)) Unfinished)
     TooLong
 
--- a line from a place on: its newline lies in what is filled, at most 1,024 bytes further
+-- a line from a place on: its newline, the first from there on, lies in what is filled, at most 1,024 bytes further
 abbrev pub Placed : Head → ℕ → List ℕ → Type 0
-Placed (head.Line end to) from input = (from ≤ end) × (end ≤ from + longest) × (end < to) × (to ≤ length input)
+Placed (head.Line end to) from input =
+    (from ≤ end)
+    × (end ≤ from + longest)
+    × (end < to)
+    × (to ≤ length input)
+    × (firstPlace newline (part from to input) ≡ end - from)
 Placed head.Missing from input = Unit
 Placed (head.Failed e) from input = Unit
 

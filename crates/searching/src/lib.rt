@@ -117,7 +117,7 @@ fn opened(
 }
 
 // Shows, matches and answers line after line, and offers more where none waits. The one call each of line, answer and
-// offer is here or below, so that they are compiled into the loop.
+// offer is here or below, so that they are compiled into the loop. Turns are a bound for the proof: nothing lasts so long.
 fn search_text(
     searcher: Searcher,
     literal: &[u8],

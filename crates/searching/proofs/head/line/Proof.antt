@@ -3,7 +3,7 @@ use native.Mathlib.Omega.{arith}
 use borrow.Author.Needs.{needs}
 use mathlib.Core.Path.{sym, _∙_}
 use mathlib.Core.Path.{_≡_}
-use Prim.Native.Nat.{_-_, _≤_}
+use Prim.Native.Nat.{_+_, _-_, _≤_}
 use lib.ListN.{length, take, drop, length-drop, length-take}
 use Rattle.streams.proofs.Laws.{tail-back}
 use Rattle.searching.proofs.Laws.{whole-at}
@@ -61,8 +61,13 @@ returns : tie.Need-returns Inv-loop μ-loop
 returns c =
     let l = c .before .before .before .before .before .before in
     let a = l .before .before .args in
-    let w = whole-at (c .before .length .given .0 .0) (take (l .loop .filled - a .from) (drop (a .from) (l .loop .input))) (sym (c .before .length .given .1) ∙ c .before .before .before .look .ensures) in
-    omega (arith, w, length-take (l .loop .filled - a .from) (drop (a .from) (l .loop .input)), length-drop (a .from) (l .loop .input))
+    let n = c .before .length .given .0 .0 in
+    let xs = take (l .loop .filled - a .from) (drop (a .from) (l .loop .input)) in
+    let w = whole-at n xs (sym (c .before .length .given .1) ∙ c .before .before .before .look .ensures) in
+    let back : n ≡ a .from + n - a .from = omega arith in
+    let long = length-take (l .loop .filled - a .from) (drop (a .from) (l .loop .input)) in
+    let rest = length-drop (a .from) (l .loop .input) in
+    (omega arith, omega (arith, w), omega (arith, w, long, rest), omega (arith, w, long, rest), w .2 ∙ back)
 
 -- src/head.rt:35:30
 enum-told : tie.Need-enum-told Inv-loop μ-loop
