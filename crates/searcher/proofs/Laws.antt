@@ -1,6 +1,6 @@
 -- Laws of the door: what each way through a call gives.
 use Prim.Native.Nat.{ℕ, _+_, _-_, _*_, _≤_}
-use mathlib.Core.Path.{_≡_, refl, sym, _∙_, ap}
+use mathlib.Core.Path.{_≡_, sym, _∙_, ap}
 use mathlib.Core.Bool.{Bool, true, false, not, _&&_, _||_}
 use mathlib.Core.List.{List, []}
 use native.Mathlib.Decide.{decLe, decLt}
@@ -9,11 +9,8 @@ use lib.Dec.{eqb, leb, ltb}
 use lib.ListN.{length, take, drop, length-take}
 use lib.Seq.{take-take}
 use borrow.Author.Tests.{eq-eqb, le-leb, le-ltb, lt-leb, lt-ltb, ne-eqb, not-false, not-true}
-use Rattle.definition.specs.declared.Place.{Place}
-use Rattle.definition.specs.declared.Place.the-variants.{Nowhere, At}
 use Rattle.definition.specs.declared.Settings.{Settings}
 use Rattle.definition.specs.Bounds.{allowed, maxWindow}
-use Rattle.definition.specs.Definition.{endWith}
 use Rattle.definition.specs.Rows.{rowSize}
 use Rattle.definition.specs.Text.{firstLength, firstPlace, part}
 use Rattle.definition.proofs.Terminator.{first-le}
@@ -30,7 +27,7 @@ use Rattle.session.specs.Held.{lineBytes, lineLength, unanswered, waits}
 use Rattle.session.specs.Sound.{agrees, sound}
 use Rattle.session.proofs.Keeps.{GivenIf, TakenIf, answer-given, offer-taken}
 use Rattle.session.proofs.Taking.{quit-le}
-use Rattle.searcher.specs.Door.{closedBy, doorOpened, doorTold, placeFlag, placeOffset, searcher, unrecordedBy}
+use Rattle.searcher.specs.Door.{closedBy, doorOpened, doorTold, searcher, unrecordedBy}
 
 -- # Opening
 
@@ -130,12 +127,6 @@ recorded-7 s h k = rw (h, k)
 pub recorded-0 : (s : Session) → agrees s ≡ true → remains s ≡ false → record { refusal = 0; end = recordOf s } ≡ recorded s
 unfolding recorded recording
 recorded-0 s h k = rw (h, k)
-
-pub end-with : (bytes count matches cause : ℕ) (place : Place)
-    → record { bytes = bytes; lines = count; matches = matches; cause = cause; flag = placeFlag place; offset = placeOffset place }
-    ≡ endWith bytes count matches cause place
-end-with bytes count matches cause Nowhere = refl
-end-with bytes count matches cause (At p) = refl
 
 -- # What a caller leans on
 

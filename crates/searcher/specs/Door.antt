@@ -1,7 +1,5 @@
 -- The answers of the session's calls with the session as a searcher: nothing else changes at the door.
 use Prim.Native.Nat.{ℕ}
-use Rattle.definition.specs.declared.Place.{Place}
-use Rattle.definition.specs.declared.Place.the-variants.{Nowhere, At}
 use Rattle.session.specs.declared.Answered.{Answered}
 use Rattle.session.specs.declared.Offered.{Offered}
 use Rattle.session.specs.declared.Opened.{Opened}
@@ -38,12 +36,3 @@ closedBy k = record { refusal = k; searcher = searcher closed }
 
 abbrev pub unrecordedBy : ℕ → Recorded
 unrecordedBy k = record { refusal = k; end = noRecord }
-
--- a place as a flag and a number
-abbrev pub placeFlag : Place → ℕ
-placeFlag Nowhere = 0
-placeFlag (At p) = 1
-
-abbrev pub placeOffset : Place → ℕ
-placeOffset Nowhere = 0
-placeOffset (At p) = p

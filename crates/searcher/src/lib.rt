@@ -16,10 +16,10 @@ ghost use mathlib.Core.Bool.{cond};
 ghost use Prim.Native.Nat.{_+_, _-_, _≤_};
 ghost use Rattle.definition.specs.declared.Going.the-variants.{On};
 ghost use Rattle.definition.specs.Bounds.{maxInput};
-ghost use Rattle.definition.specs.Definition.{causeOf};
+ghost use Rattle.definition.specs.Definition.{causeOf, endWith};
 ghost use Rattle.session.specs.Calls.{endInput, fresh, goneThrough, inputTold, isQuit, noRecord, recordOf, recordedPlace, remains, toldSession};
 ghost use Rattle.session.specs.Sound.{closed};
-ghost use Rattle.searcher.specs.Door.{closedBy, placeFlag, placeOffset, unrecordedBy};
+ghost use Rattle.searcher.specs.Door.{closedBy, unrecordedBy};
 ghost use Rattle.searcher.specs.Outcomes.{Answers, Closes, Offers, Opens, Records, Shows, TellsEnd, Waits};
 
 pub struct Searcher {
@@ -324,13 +324,29 @@ fn record_of(s: Session) -> End
     let input = s.input;
     let cause = cause_of(going, input);
     let place = recorded_place(s, cause);
-    End {
-        bytes: s.bytes,
-        lines: s.lines,
-        matches: s.matches,
-        cause: cause,
-        flag: flag_of(place),
-        offset: offset_of(place),
+    end_with(s.bytes, s.lines, s.matches, cause, place)
+}
+
+fn end_with(bytes: u64, lines: u64, matches: u64, cause: u64, place: Place) -> End
+    ensures { λ r. ⌜ r ≡ endWith bytes lines matches cause place ⌝ }
+{
+    match place {
+        Place::Nowhere => End {
+            bytes: bytes,
+            lines: lines,
+            matches: matches,
+            cause: cause,
+            flag: 0,
+            offset: 0,
+        },
+        Place::At(p) => End {
+            bytes: bytes,
+            lines: lines,
+            matches: matches,
+            cause: cause,
+            flag: 1,
+            offset: p,
+        },
     }
 }
 
@@ -385,22 +401,4 @@ fn only_if(b: bool, p: u64) -> Place
     ensures { λ r. ⌜ r ≡ cond b (Place.At p) Place.Nowhere ⌝ }
 {
     if b { Place::At(p) } else { Place::Nowhere }
-}
-
-fn flag_of(place: Place) -> u64
-    ensures { λ r. ⌜ r ≡ placeFlag place ⌝ }
-{
-    match place {
-        Place::Nowhere => 0,
-        Place::At(_) => 1,
-    }
-}
-
-fn offset_of(place: Place) -> u64
-    ensures { λ r. ⌜ r ≡ placeOffset place ⌝ }
-{
-    match place {
-        Place::Nowhere => 0,
-        Place::At(p) => p,
-    }
 }

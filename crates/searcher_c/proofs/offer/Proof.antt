@@ -1,7 +1,7 @@
 -- No more is taken than was offered.
 use native.Mathlib.Omega.{arith}
 use Prim.Native.Nat.{_+_, _≤_}
-use lib.ListN.{length, drop, length-drop}
+use lib.ListN.{length, length-drop}
 use Rattle.searcher.specs.Door.{doorOffered}
 use Rattle.searcher.proofs.Laws.{taken-le}
 use borrow.Author.Needs.{needs}

@@ -1,7 +1,7 @@
 -- The lent parts keep their lengths, and the place reached lies in the text; the turns left fall.
 use native.Mathlib.Omega.{arith}
 use borrow.Author.Needs.{needs}
-use mathlib.Core.Path.{_≡_, refl, _∙_}
+use mathlib.Core.Path.{_≡_, _∙_}
 use Prim.Native.Nat.{_*_, _≤_}
 use lib.ListN.{length}
 use Rattle.searcher.specs.Door.{doorAnswered}

@@ -1,5 +1,4 @@
 -- Every place read lies before the last row's end.
-use native.Mathlib.Omega.{arith}
 use borrow.Author.Needs.{needs}
 use Prim.Native.Nat.{_*_, _-_}
 use mathlib.Core.Path.{_≡_}
