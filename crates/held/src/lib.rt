@@ -7,12 +7,12 @@ use lines::Found;
 use session::Input;
 use session::Session;
 ghost use mathlib.Core.Path.{_≡_};
-ghost use Prim.Native.Nat.{_≤_};
+ghost use Prim.Native.Nat.{_+_, _-_, _≤_};
 ghost use lib.ListN.{length};
-ghost use Rattle.definition.specs.Bounds.{allowed, contextual, limitInRange, maxContext};
+ghost use Rattle.definition.specs.Bounds.{allowed, contextual, limitInRange, maxContext, maxInput};
 ghost use Rattle.definition.specs.Definition.{keptLines};
 ghost use Rattle.session.specs.Held.{isOn, isOpen, keptFrom};
-ghost use Rattle.session.specs.Sound.{agrees, sound, withinLimit};
+ghost use Rattle.session.specs.Sound.{agrees, sound, takenBytes, withinLimit};
 ghost use Rattle.held.specs.Held.{Ordered, counted, nextLine, ordered, restLine};
 
 // The waiting line, by its length with terminator.
@@ -121,6 +121,14 @@ pub fn is_sound(s: Session, window: usize) -> bool
     ensures { λ r. ⌜ r ≡ sound s window ⌝ }
 {
     agree(s) & (window == s.window)
+}
+
+// The bytes taken: gone through, and held unanswered.
+pub fn taken_bytes(s: Session) -> u64
+    requires { ⌜ (s .next ≤ s .end) × (s .bytes + (s .end - s .next) ≤ maxInput) ⌝ }
+    ensures { λ r. ⌜ r ≡ takenBytes s ⌝ }
+{
+    s.bytes + ((s.end - s.next) as u64)
 }
 
 // The line that waits, read from the window as it stands.

@@ -117,7 +117,7 @@ module _ (s : Session) (w piece : List ℕ) (from : ℕ) (so : Sounded s w from)
   free = s .window - (s .end - from)
 
   abbrev left : ℕ
-  left = maxInput - (s .bytes + (s .end - s .next))
+  left = maxInput - takenBytes s
 
   abbrev reach : Reach
   reach = reached (s .settings .binary) piece (min free left)
@@ -133,7 +133,7 @@ module _ (s : Session) (w piece : List ℕ) (from : ℕ) (so : Sounded s w from)
   front-is = front (quitPlace (s .settings .binary) piece) (min free left) (length piece)
 
   taking-is : taking s w piece ≡ Take (reach .taken) (reach .quit)
-  unfolding taking fitting beforeQuit reached takenBytes
+  unfolding taking fitting beforeQuit reached
   taking-is = rw free-is
 
   planned-from : (o : Offering) → OfferCase s w piece o → planOf o from ≡ planned s w piece
@@ -146,11 +146,9 @@ module _ (s : Session) (w piece : List ℕ) (from : ℕ) (so : Sounded s w from)
       rw (taking-is, none, both .0) at (planned-from (taking s w piece) (quits sounds i (sym front-is ∙ h)))
 
   pub path-size : (reach .quit && eqb (reach .taken) 0) ≡ false → left ≡ 0 → Refuse 5 ≡ planned s w piece
-  unfolding takenBytes
   path-size h k = planned-from (OfferRefused 5) (sized (sounds, i, sym front-is ∙ h) (omega arith))
 
   pub path-stuck : (reach .quit && eqb (reach .taken) 0) ≡ false → left ≢ 0 → (not (waits s w) && eqb free 0) ≡ true → Refuse 3 ≡ planned s w piece
-  unfolding takenBytes
   path-stuck h k j =
       let both = and-eq-true-iff (not (waits s w)) (eqb free 0) .0 j in
       planned-from (OfferRefused 3)
@@ -158,7 +156,6 @@ module _ (s : Session) (w piece : List ℕ) (from : ℕ) (so : Sounded s w from)
 
   pub path-take : (reach .quit && eqb (reach .taken) 0) ≡ false → left ≢ 0 → (not (waits s w) && eqb free 0) ≡ false
       → Store from (reach .taken) (reach .quit) ≡ planned s w piece
-  unfolding takenBytes
   path-take h k j =
       rw taking-is at (planned-from (taking s w piece) (takes (sounds, i, sym front-is ∙ h) (omega (arith, some k)) (room (waits s w) (eqb free 0) refl refl j)))
     where

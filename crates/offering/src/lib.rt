@@ -88,7 +88,7 @@ fn decide_from(s: Session, window: &[u8], piece: &[u8], from: usize) -> Plan
     let c = s.settings;
     let binary = c.binary;
     let free = s.window - (s.end - from);
-    let left = definition::MAX_INPUT - (s.bytes + ((s.end - s.next) as u64));
+    let left = definition::MAX_INPUT - held::taken_bytes(s);
     let reach = reaches(binary, piece, least(free, left as usize));
     if reach.quit & (reach.taken == 0) {
         return Plan::Store(from, 0, true);
@@ -160,7 +160,7 @@ fn store(s: Session, window: &mut [u8], piece: &[u8], from: usize, n: usize, qui
     let part = &piece[..n];
     line_buffer::roll(window, from, end);
     line_buffer::take_in(window, end - from, part, binary, c.terminator);
-    let taken = s.bytes + ((end - s.next) as u64);
+    let taken = held::taken_bytes(s);
     let replaced = first_replaced(place, binary, c.terminator, taken, part);
     let input = input_after(quit);
     Session {

@@ -376,7 +376,7 @@ fn recorded_place(s: Session, cause: u64) -> Place
     ensures { λ r. ⌜ r ≡ recordedPlace s cause ⌝ }
 {
     if cause == 1 {
-        return Place::At(s.bytes + ((s.end - s.next) as u64));
+        return Place::At(held::taken_bytes(s));
     }
     let c = s.settings;
     let binary = c.binary;

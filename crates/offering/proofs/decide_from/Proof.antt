@@ -1,9 +1,10 @@
 -- In the order of the refusals: a Quit byte at the front, the size, the window, and else what comes in.
-use Prim.Native.Nat.{_+_, _-_, _≤_, min}
+use Prim.Native.Nat.{_-_, _≤_, min}
 use mathlib.Core.Path.{_≡_, sym, _∙_}
 use native.Mathlib.Omega.{arith}
 use Rattle.definition.specs.Bounds.{maxInput}
 use Rattle.session.specs.Held.{keptFrom}
+use Rattle.session.specs.Sound.{takenBytes}
 use Rattle.offering.specs.Plan.{reached}
 use Rattle.offering.proofs.Laws.{path-front, path-size, path-stuck, path-take}
 use borrow.Author.Needs.{needs}
@@ -11,6 +12,7 @@ use Rattle.offering.proofs.decide_from.Statement.{statement}
 use Rattle.offering.proofs.decide_from.Tie as tie
 use Rattle.offering.proofs.decide_from.Reads as reads
 use Rattle.offering.proofs.decide_from.Lts as lts
+use Rattle.held.proofs.taken_bytes.Reads as taken-bytes-reads
 use Rattle.offering.proofs.is_stuck.Reads as is-stuck-reads
 use Rattle.offering.proofs.least.Reads as least-reads
 use Rattle.offering.proofs.reaches.Reads as reaches-reads
@@ -27,17 +29,14 @@ sub-free c = omega (arith, from-le (c .before .before .before .before))
 sub-free-2 : tie.Need-sub-free-2
 sub-free-2 c = search needs
 
--- src/lib.rt:91:53
-sub-left : tie.Need-sub-left
-sub-left c = search needs
-
 -- src/lib.rt:91:41
-add-left : tie.Need-add-left
-add-left c = search needs
+taken-bytes-requires : tie.Need-taken-bytes-requires
+taken-bytes-requires c κs = let a = c .before .before .before .before .before .pre .0 .agree in (a .next-end, a .size)
 
 -- src/lib.rt:91:16
-sub-left-2 : tie.Need-sub-left-2
-sub-left-2 c = search needs
+sub-left : tie.Need-sub-left
+unfolding takenBytes
+sub-left c = omega (arith, c .taken-bytes .ensures, c .before .before .before .before .before .before .pre .0 .agree)
 
 -- src/lib.rt:92:40
 least-requires : tie.Need-least-requires
@@ -48,49 +47,53 @@ reaches-requires : tie.Need-reaches-requires
 reaches-requires c κs = search needs
 
 reach-as : (c : tie.After-reaches)
-    → let a = c .before .before .before .before .before .before .before .before .before .args in
+    → let a = c .before .before .before .before .before .before .before .before .args in
     c .reaches .result
     ≡ reached (a .s .settings .binary) (a .piece .now)
-    (min (a .s .window - (a .s .end - a .from)) (maxInput - (a .s .bytes + (a .s .end - a .s .next))))
-reach-as c = rw (c .before .least .ensures) at (c .reaches .ensures)
+    (min (a .s .window - (a .s .end - a .from)) (maxInput - takenBytes (a .s)))
+reach-as c = rw (c .before .least .ensures, c .before .before .taken-bytes .ensures) at (c .reaches .ensures)
+
+left-as : (c : tie.After-taken-bytes) → c .taken-bytes .result ≡ takenBytes (c .before .before .before .before .before .before .args .s)
+left-as c = c .taken-bytes .ensures
 
 -- src/lib.rt:94:9
 returns : tie.Need-returns
 returns c =
-    let s = c .before .before .before .before .before .before .before .before .before .before .before .before in
+    let s = c .before .before .before .before .before .before .before .before .before .before .before in
     let a = s .args in
     path-front (a .s) (a .window .now) (a .piece .now) (a .from) (s .pre .0) (s .pre .1) (rw (reach-as (c .before .before .before)) at (c .if1 .taken))
 
 -- src/lib.rt:97:9
 returns-2 : tie.Need-returns-2
 returns-2 c =
-    let s = c .before .before .before .before .before .before .before .before .before .before .before .before .before in
+    let s = c .before .before .before .before .before .before .before .before .before .before .before .before in
     let a = s .args in
-    path-size (a .s) (a .window .now) (a .piece .now) (a .from) (s .pre .0) (s .pre .1) (rw (reach-as (c .before .before .before .before)) at (c .before .if1 .left)) (c .if2 .taken)
+    path-size (a .s) (a .window .now) (a .piece .now) (a .from) (s .pre .0) (s .pre .1) (rw (reach-as (c .before .before .before .before)) at (c .before .if1 .left))
+    (rw (left-as (c .before .before .before .before .before .before)) at (c .if2 .taken))
 
 -- src/lib.rt:99:8
 is-stuck-requires : tie.Need-is-stuck-requires
 is-stuck-requires c κs =
-    let s = c .before .before .before .before .before .before .before .before .before .before .before .before .before in
+    let s = c .before .before .before .before .before .before .before .before .before .before .before .before in
     let r = s .pre .0 in
     (r .agree .next-end, omega (arith, r .agree, r .same))
 
 -- src/lib.rt:100:9
 returns-3 : tie.Need-returns-3
 returns-3 c =
-    let s = c .before .before .before .before .before .before .before .before .before .before .before .before .before .before .before in
+    let s = c .before .before .before .before .before .before .before .before .before .before .before .before .before .before in
     let a = s .args in
     path-stuck (a .s) (a .window .now) (a .piece .now) (a .from) (s .pre .0) (s .pre .1) (rw (reach-as (c .before .before .before .before .before .before)) at (c .before .before .before .if1 .left))
-    (c .before .before .if2 .left) (sym (c .before .is-stuck .ensures) ∙ c .if3 .taken)
+    (rw (left-as (c .before .before .before .before .before .before .before .before)) at (c .before .before .if2 .left)) (sym (c .before .is-stuck .ensures) ∙ c .if3 .taken)
 
 -- src/lib.rt:83:1
 returns-4 : tie.Need-returns-4
 returns-4 c =
-    let s = c .before .before .before .before .before .before .before .before .before .before .before .before .before .before .before in
+    let s = c .before .before .before .before .before .before .before .before .before .before .before .before .before .before in
     let a = s .args in
     rw (reach-as (c .before .before .before .before .before .before))
     (path-take (a .s) (a .window .now) (a .piece .now) (a .from) (s .pre .0) (s .pre .1) (rw (reach-as (c .before .before .before .before .before .before)) at (c .before .before .before .if1 .left))
-    (c .before .before .if2 .left) (sym (c .before .is-stuck .ensures) ∙ c .if3 .left))
+    (rw (left-as (c .before .before .before .before .before .before .before .before)) at (c .before .before .if2 .left)) (sym (c .before .is-stuck .ensures) ∙ c .if3 .left))
 
 pub decide-from-spec : {M : Type 1} → statement M
 decide-from-spec =
@@ -98,9 +101,8 @@ decide-from-spec =
     (tie.spec
     sub-free
     sub-free-2
+    taken-bytes-requires
     sub-left
-    add-left
-    sub-left-2
     least-requires
     reaches-requires
     returns

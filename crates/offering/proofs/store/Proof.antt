@@ -15,6 +15,7 @@ use Rattle.offering.proofs.store.Statement.{statement}
 use Rattle.offering.proofs.store.Tie as tie
 use Rattle.offering.proofs.store.Reads as reads
 use Rattle.offering.proofs.store.Lts as lts
+use Rattle.held.proofs.taken_bytes.Reads as taken-bytes-reads
 use Rattle.line_buffer.proofs.roll.Reads as roll-reads
 use Rattle.line_buffer.proofs.take_in.Reads as take-in-reads
 use Rattle.offering.proofs.first_replaced.Reads as first-replaced-reads
@@ -63,17 +64,14 @@ take-in-requires c κs =
     let rolled-length = ap length (c .before .before .before .roll .ensures) ∙ length-rolled (a .from) (a .s .end) (a .window .now) (f .ordered) (f .inside) in
     omega (arith, f, rolled-length, length-take-le (a .n) (a .piece .now) (s .pre .some), s .pre .sounded .same)
 
--- src/lib.rt:163:29
-sub-taken : tie.Need-sub-taken
-sub-taken c = search needs
-
 -- src/lib.rt:163:17
-add-taken : tie.Need-add-taken
-add-taken c = omega (arith, facts (c .before .before .before .before .before .before .before .before .before .before .before .before .before .before))
+taken-bytes-requires : tie.Need-taken-bytes-requires
+taken-bytes-requires c κs = (c .before .before .before .before .before .before .before .before .before .before .before .before .pre .sounded .agree .next-end, facts (c .before .before .before .before .before .before .before .before .before .before .before .before) .size)
 
 -- src/lib.rt:164:9
 first-replaced-requires : tie.Need-first-replaced-requires
-first-replaced-requires c κs = facts (c .before .before .before .before .before .before .before .before .before .before .before .before .before .before) .size
+unfolding takenBytes
+first-replaced-requires c κs = omega (arith, c .taken-bytes .ensures, facts (c .before .before .before .before .before .before .before .before .before .before .before .before .before) .size)
 
 -- src/lib.rt:165:9
 input-after-requires : tie.Need-input-after-requires
@@ -81,15 +79,15 @@ input-after-requires c κs = search needs
 
 -- src/lib.rt:170:15
 sub-t22 : tie.Need-sub-t22
-sub-t22 c = facts (c .before .before .before .before .before .before .before .before .before .before .before .before .before .before .before .before .before) .back
+sub-t22 c = facts (c .before .before .before .before .before .before .before .before .before .before .before .before .before .before .before .before) .back
 
 -- src/lib.rt:171:14
-sub-t24 : tie.Need-sub-t24
-sub-t24 c = facts (c .before .before .before .before .before .before .before .before .before .before .before .before .before .before .before .before .before) .ordered
+sub-t23 : tie.Need-sub-t23
+sub-t23 c = facts (c .before .before .before .before .before .before .before .before .before .before .before .before .before .before .before .before) .ordered
 
 -- src/lib.rt:171:14
-add-t25 : tie.Need-add-t25
-add-t25 c = omega (arith, facts (c .before .before .before .before .before .before .before .before .before .before .before .before .before .before .before .before .before))
+add-t24 : tie.Need-add-t24
+add-t24 c = omega (arith, facts (c .before .before .before .before .before .before .before .before .before .before .before .before .before .before .before .before))
 
 -- src/lib.rt:150:1
 same-length : tie.Need-same-length
@@ -97,12 +95,12 @@ same-length c = search needs
 
 -- src/lib.rt:150:1
 returns : tie.Need-returns
-unfolding stored takenBytes
+unfolding stored
 returns c =
-    let s = c .before .before .before .before .before .before .before .before .before .before .before .before .before .before .before .before .before in
+    let s = c .before .before .before .before .before .before .before .before .before .before .before .before .before .before .before .before in
     let a = s .args in (
-      rw (c .before .input-after .ensures, c .before .before .first-replaced .ensures, s .pre .sounded .from-is),
-      c .before .before .before .before .before .before .before .take-in .ensures ∙ rw (c .before .before .before .before .before .before .before .before .before .before .before .roll .ensures) (stored-bytes (a .s) (a .window .now) (a .piece .now) (a .from) (a .n) (s .pre)),
+      rw (c .before .input-after .ensures, c .before .before .first-replaced .ensures, c .before .before .before .taken-bytes .ensures, s .pre .sounded .from-is),
+      c .before .before .before .before .before .before .take-in .ensures ∙ rw (c .before .before .before .before .before .before .before .before .before .before .roll .ensures) (stored-bytes (a .s) (a .window .now) (a .piece .now) (a .from) (a .n) (s .pre)),
     )
 
 pub store-spec : {M : Type 1} → statement M
@@ -113,12 +111,11 @@ store-spec =
     roll-requires
     sub-take-in
     take-in-requires
-    sub-taken
-    add-taken
+    taken-bytes-requires
     first-replaced-requires
     input-after-requires
     sub-t22
-    sub-t24
-    add-t25
+    sub-t23
+    add-t24
     same-length
     returns)

@@ -1,26 +1,22 @@
 -- Under cause 1 the bytes taken; else by the binary setting.
 use borrow.Author.Tests.{eq-eqb, ne-eqb}
 use Rattle.session.specs.Calls.{recordedPlace}
-use Rattle.session.specs.Sound.{takenBytes}
 use borrow.Author.Needs.{needs}
 use Rattle.searcher.proofs.recorded_place.Statement.{statement}
 use Rattle.searcher.proofs.recorded_place.Tie as tie
 use Rattle.searcher.proofs.recorded_place.Reads as reads
 use Rattle.searcher.proofs.recorded_place.Lts as lts
+use Rattle.held.proofs.taken_bytes.Reads as taken-bytes-reads
 use Rattle.searcher.proofs.gone_through.Reads as gone-through-reads
 
--- src/lib.rt:364:38
-sub-t7 : tie.Need-sub-t7
-sub-t7 c = search needs
+-- src/lib.rt:378:26
+taken-bytes-requires : tie.Need-taken-bytes-requires
+taken-bytes-requires c κs = search needs
 
--- src/lib.rt:364:26
-add-t9 : tie.Need-add-t9
-add-t9 c = search needs
-
--- src/lib.rt:364:9
+-- src/lib.rt:378:9
 returns : tie.Need-returns
-unfolding recordedPlace takenBytes
-returns c = rw (eq-eqb (c .before .before .before .args .cause) 1 (c .before .before .if1 .taken))
+unfolding recordedPlace
+returns c = rw (eq-eqb (c .before .before .args .cause) 1 (c .before .if1 .taken), c .taken-bytes .ensures)
 
 -- src/lib.rt:370:27
 enum-told : tie.Need-enum-told
@@ -57,8 +53,7 @@ pub recorded-place-spec : {M : Type 1} → statement M
 recorded-place-spec =
     tie.close
     (tie.spec
-    sub-t7
-    add-t9
+    taken-bytes-requires
     returns
     enum-told
     enum-told-2

@@ -1,0 +1,23 @@
+-- As takenBytes says it.
+use Rattle.session.specs.Sound.{takenBytes}
+use borrow.Author.Needs.{needs}
+use Rattle.held.proofs.taken_bytes.Statement.{statement}
+use Rattle.held.proofs.taken_bytes.Tie as tie
+use Rattle.held.proofs.taken_bytes.Reads as reads
+use Rattle.held.proofs.taken_bytes.Lts as lts
+
+-- src/lib.rt:131:17
+sub-result : tie.Need-sub-result
+sub-result c = search needs
+
+-- src/lib.rt:131:5
+add-result : tie.Need-add-result
+add-result c = search needs
+
+-- src/lib.rt:127:1
+returns : tie.Need-returns
+unfolding takenBytes
+returns c = search needs
+
+pub taken-bytes-spec : {M : Type 1} → statement M
+taken-bytes-spec = tie.close (tie.spec sub-result add-result returns)
