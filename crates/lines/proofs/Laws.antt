@@ -219,10 +219,9 @@ without-handed t (x ∷ (y ∷ ys)) h = go (eqb x t) h (without-handed t (y ∷ 
     go true h ih = absurd (omega arith)
     go false h ih = ap (λ zs. x ∷ zs) (ih (omega arith))
 
--- The first line without its terminator is what comes before the first terminator.
-pub without-line : (t : ℕ) (xs : List ℕ) → withoutTerminator t (take (firstLength t xs) xs) ≡ take (firstPlace t xs) xs
+-- The first line without its terminator is what the definition hands over of it.
+pub without-line : (t : ℕ) (xs : List ℕ) → let line = take (firstLength t xs) xs in withoutTerminator t line ≡ handed t line
 unfolding firstPlace handed
 without-line t xs =
-    let line = take (firstLength t xs) xs in
     let bytes = ap length (handed-next t xs) in
-    without-handed t line (omega (arith, bytes, length-take (firstPlace t xs) xs, length-take (firstLength t xs) xs, first-le t xs)) ∙ handed-next t xs
+    without-handed t (take (firstLength t xs) xs) (omega (arith, bytes, length-take (firstPlace t xs) xs, length-take (firstLength t xs) xs, first-le t xs))

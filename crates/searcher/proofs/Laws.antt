@@ -1,6 +1,6 @@
 -- Laws of the door: what each way through a call gives.
 use Prim.Native.Nat.{ℕ, _+_, _-_, _*_, _≤_}
-use mathlib.Core.Path.{_≡_, sym, _∙_, ap}
+use mathlib.Core.Path.{_≡_, sym, _∙_, ap, subst}
 use mathlib.Core.Bool.{Bool, true, false, not, _&&_, _||_}
 use mathlib.Core.List.{List, []}
 use native.Mathlib.Decide.{decLe, decLt}
@@ -12,8 +12,7 @@ use borrow.Author.Tests.{eq-eqb, le-leb, le-ltb, lt-leb, lt-ltb, ne-eqb, not-fal
 use Rattle.definition.specs.declared.Settings.{Settings}
 use Rattle.definition.specs.Bounds.{allowed, maxWindow}
 use Rattle.definition.specs.Rows.{rowSize}
-use Rattle.definition.specs.Text.{firstLength, firstPlace, part}
-use Rattle.definition.proofs.Terminator.{first-le}
+use Rattle.definition.specs.Text.{firstLength, handed, part}
 use Rattle.lines.specs.Lines.{withoutTerminator}
 use Rattle.lines.proofs.Laws.{without-line}
 use Rattle.session.specs.declared.Answering.{Answering}
@@ -23,7 +22,7 @@ use Rattle.session.specs.declared.Offering.the-variants.{OfferRefused, Idle, Ta
 use Rattle.session.specs.declared.Session.{Session}
 use Rattle.session.specs.declared.Waiting.the-variants.{LineWaits, NoneWaits, WaitingRefused}
 use Rattle.session.specs.Calls.{answerAnswer, answered, answering, beforeQuit, fresh, offerAnswer, offered, offering, opened, opening, recordOf, recorded, recording, remains, shownLine, shownWhere, told, toldSession, waiting}
-use Rattle.session.specs.Held.{lineBytes, lineLength, unanswered, waits}
+use Rattle.session.specs.Held.{lineLength, unanswered, waits}
 use Rattle.session.specs.Sound.{agrees, sound}
 use Rattle.session.proofs.Keeps.{GivenIf, TakenIf, answer-given, offer-taken}
 use Rattle.session.proofs.Taking.{quit-le}
@@ -61,17 +60,6 @@ part-of a k w =
     let e : a + k - a ≡ k = omega arith in
     rw e
 
--- the first line of a beginning of some bytes
-line-of : (t n : ℕ) (rest : List ℕ)
-    → withoutTerminator t (take (firstLength t (take n rest)) rest) ≡ take (firstPlace t (take n rest)) rest
-line-of t n rest =
-    let xs = take n rest in
-    let size = length-take n rest in
-    let place = first-le t xs in
-    ap (withoutTerminator t) (sym (take-take (firstLength t xs) n rest (omega (arith, size))))
-    ∙ without-line t xs
-    ∙ take-take (firstPlace t xs) n rest (omega (arith, size, place))
-
 module _ (s : Session) (w : List ℕ) where
   pub waiting-refused : sound s (length w) ≡ false → WaitingRefused ≡ waiting s w
   unfolding waiting
@@ -96,15 +84,14 @@ module _ (s : Session) (w : List ℕ) where
   -- the waiting line, taken from the window and its terminator taken off
   pub shown-line : sound s (length w) ≡ true → waits s w ≡ true
       → withoutTerminator (s .settings .terminator) (part (s .next) (s .next + lineLength s w) w) ≡ shownLine s w
-  unfolding shownLine lineLength lineBytes unanswered
+  unfolding shownLine lineLength unanswered
   shown-line e v =
       let t = s .settings .terminator in
       let rest = drop (s .next) w in
-      let n = s .end - s .next in
-      ap (withoutTerminator t) (part-of (s .next) (firstLength t (take n rest)) w)
-      ∙ line-of t n rest
-      ∙ sym (part-of (s .next) (firstPlace t (take n rest)) w)
-      ∙ ap (λ k. shownWhere k s w) (waiting-line e v)
+      let size = s .end - s .next in
+      let k = firstLength t (take size rest) in
+      let same = part-of (s .next) k w ∙ sym (take-take k size rest (omega (arith, length-take size rest))) in
+      subst (λ l. withoutTerminator t l ≡ handed t l) (sym same) (without-line t (take size rest)) ∙ ap (λ x. shownWhere x s w) (waiting-line e v)
 
 -- # The end
 

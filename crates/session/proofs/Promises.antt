@@ -13,14 +13,13 @@ use Rattle.definition.specs.declared.Settings.{Settings}
 use Rattle.definition.specs.Definition.{endOf, endRecord, goneLines, rowsOf}
 use Rattle.definition.specs.Laws.{finalState}
 use Rattle.definition.specs.State.{State, begun, rows, state, trim}
-use Rattle.definition.specs.Text.{firstPlace, handed, lines, text}
+use Rattle.definition.specs.Text.{firstLength, handed, lines, text}
 use Rattle.definition.proofs.Kept.{rows-append}
 use Rattle.definition.proofs.Same.{same-end, same-lines, same-rows}
-use Rattle.definition.proofs.Terminator.{first-le, handed-next}
 use Rattle.session.specs.declared.Session.{Session}
 use Rattle.session.specs.declared.Waiting.the-variants.{LineWaits, NoneWaits}
 use Rattle.session.specs.Calls.{answered, offered, recorded, shownLine, waiting, waitingRefusal}
-use Rattle.session.specs.Held.{lineBytes, lineLength, shown, unanswered, waits}
+use Rattle.session.specs.Held.{lineLength, shown, unanswered, waits}
 use Rattle.session.specs.Promises.{Account, Asked, Begins, Beginning, Prompt, Cut, Ends, Finished, Handed, Memory, NoRoom, Room, Served, TooLong, Within, answersOf}
 use Rattle.session.specs.Run.{At, Run, Steps}
 use Rattle.session.specs.Sound.{sound}
@@ -34,14 +33,14 @@ use Rattle.session.proofs.Room.{cut-shorter, not-ended, not-past, same-
 
 -- the part shown is the waiting line without its terminator
 shown-handed : (s : Session) (w : List ℕ) → waiting s w ≡ LineWaits → shownLine s w ≡ handed (s .settings .terminator) (line s w)
-unfolding shownLine line lineLength lineBytes unanswered
+unfolding shownLine line lineLength unanswered
 shown-handed s w e =
     let t = s .settings .terminator in
-    let u = unanswered s w in
-    let p = firstPlace t u in
-    let n : s .next + p - s .next ≡ p = omega arith in
-    let le : p ≤ s .end - s .next = omega (arith, first-le t u, length-take (s .end - s .next) (drop (s .next) w)) in
-    rw (e, n) (sym (take-take p (s .end - s .next) (drop (s .next) w) le) ∙ sym (handed-next t u))
+    let rest = drop (s .next) w in
+    let size = s .end - s .next in
+    let k = firstLength t (take size rest) in
+    let n : s .next + k - s .next ≡ k = omega arith in
+    rw (e, n) (ap (handed t) (sym (take-take k size rest (omega (arith, length-take size rest)))))
 
 module _ (input : List ℕ) (answers : ℕ → Bool) (s : Session) (w rest : List ℕ) (count : ℕ) (given : List Row)
     (i : Inv input answers s w rest count given) where

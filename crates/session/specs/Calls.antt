@@ -20,7 +20,7 @@ use Rattle.definition.specs.Bounds.{allowed, maxInput, maxWindow}
 use Rattle.definition.specs.Definition.{causeOf, endWith, goingNext, lastOf}
 use Rattle.definition.specs.Rows.{flat, rowSize}
 use Rattle.definition.specs.State.{State, fateOf, stepRows, stepState}
-use Rattle.definition.specs.Text.{firstPlace, part, text}
+use Rattle.definition.specs.Text.{firstPlace, handed, part, text}
 use Rattle.session.specs.declared.Answered.{Answered}
 use Rattle.session.specs.declared.Answering.{Answering}
 use Rattle.session.specs.declared.Answering.the-variants.{AnswerRefused, Give}
@@ -35,7 +35,7 @@ use Rattle.session.specs.declared.Session.{Session}
 use Rattle.session.specs.declared.Told.{Told}
 use Rattle.session.specs.declared.Waiting.{Waiting}
 use Rattle.session.specs.declared.Waiting.the-variants.{LineWaits, NoneWaits, WaitingRefused}
-use Rattle.session.specs.Held.{isOn, isOpen, lineBytes, waits, lineLength, heldBytes, keptFrom, shown}
+use Rattle.session.specs.Held.{isOn, isOpen, waits, lineLength, heldBytes, keptFrom, shown}
 use Rattle.session.specs.Sound.{agrees, closed, sound, takenBytes}
 
 -- # Opening
@@ -169,7 +169,7 @@ waitingRefusal WaitingRefused = 6
 
 -- "The waiting line is shown as that part of the lent window itself, without its terminator ..; on the last two the part is empty."
 abbrev pub shownWhere : Waiting → Session → List ℕ → List ℕ
-shownWhere LineWaits s w = part (s .next) (s .next + lineBytes s w) w
+shownWhere LineWaits s w = handed (s .settings .terminator) (part (s .next) (s .next + lineLength s w) w)
 shownWhere NoneWaits s w = []
 shownWhere WaitingRefused s w = []
 
