@@ -12,6 +12,7 @@ ghost use mathlib.Core.Bool.{cond};
 ghost use Prim.Native.Nat.{_-_, _*_, _≤_};
 ghost use lib.ListN as ListN;
 ghost use Rattle.definition.specs.Bounds.{maxInput};
+ghost use Rattle.definition.specs.Rows.{rowSize};
 ghost use Rattle.definition.specs.State.{givenNext};
 ghost use Rattle.definition.specs.Definition.{afterLeftNext, fate, goingNext, isMatch, limitReached, matchesNext, selected};
 ghost use Rattle.session.specs.Calls.{answered, answeredTable, getsRow};
@@ -121,7 +122,7 @@ fn give_line(s: Session, table: &mut [u64], length: usize, fate: Fate, kind: u64
     ensures { λ r. ⌜ r ≡ lineAnswer s (ListN.length (now (table .entry))) length fate ⌝ }
     ensures { λ _. ⌜ now (table .exit) ≡ lineTable (now (table .entry)) (lineRow kind s length) ⌝ }
 {
-    if table.len() < rows::ROW {
+    if table.len() < definition::ROW {
         return refused(s, 4);
     }
     rows::put_row(table, 0, line_row(s, length, kind));
@@ -152,7 +153,7 @@ fn give_match(s: Session, window: &[u8], table: &mut [u64], length: usize) -> An
     }
     let gap = gap_before(s, before.from);
     let count = gap + before.lines + 1;
-    if table.len() < rows::ROW * count {
+    if table.len() < definition::ROW * count {
         return refused(s, 4);
     }
     put_match(s, window, table, length, before, gap);
@@ -201,20 +202,20 @@ fn put_match(
     let from = before.from;
     let next = s.next;
     let part = &window[from..next];
-    let at = rows::ROW * gap;
+    let at = definition::ROW * gap;
     let offset = s.bytes - ((next - from) as u64);
     let number = s.lines + 1 - (before.lines as u64);
     put_break(table, gap);
     rows::put_before(table, at, part, c.terminator, offset, number);
     rows::put_row(
         table,
-        at + rows::ROW * before.lines,
+        at + definition::ROW * before.lines,
         line_row(s, length, rows::MATCH),
     );
 }
 
 fn put_break(table: &mut [u64], gap: usize)
-    requires { ⌜ 4 * gap ≤ ListN.length (now table) ⌝ }
+    requires { ⌜ rowSize * gap ≤ ListN.length (now table) ⌝ }
     ensures { λ _. ⌜ now (table .exit) ≡ breakTable gap (now (table .entry)) ⌝ }
 {
     if 0 < gap {

@@ -81,3 +81,6 @@ pub const MAX_LIMIT: u64 = 4_294_967_295;
 pub const MAX_WINDOW: usize = 65_536;
 
 pub const MAX_INPUT: u64 = 4_294_967_295;
+
+// How many numbers a row is.
+pub const ROW: usize = 4;

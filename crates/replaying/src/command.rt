@@ -28,6 +28,7 @@ use session::Waiting;
 use streams::Pending;
 ghost use mathlib.Core.Path.{_≡_};
 ghost use Prim.Native.Nat.{_+_, _≤_, min};
+ghost use Rattle.definition.specs.Rows.{rowSize};
 ghost use lib.ListN.{length};
 ghost use Rattle.io.specs.Counts.{Counts};
 
@@ -177,14 +178,14 @@ fn said_rows(state: State, out: &mut [u8], table: &[u64], rows: usize) -> State 
     let mut told = state;
     let mut i = 0;
     while i < count {
-        told = said_row(told, out, table, 4 * i);
+        told = said_row(told, out, table, definition::ROW * i);
         i += 1;
     }
     told
 }
 
 fn said_row(state: State, out: &mut [u8], table: &[u64], at: usize) -> State
-    requires { ⌜ at + 4 ≤ length (now table) ⌝ }
+    requires { ⌜ at + rowSize ≤ length (now table) ⌝ }
 {
     said_four(
         state,

@@ -3,11 +3,9 @@ use definition::Row;
 ghost use mathlib.Core.Path.{_≡_};
 ghost use Prim.Native.Nat.{_+_, _*_, _≤_};
 ghost use lib.ListN.{length};
-ghost use Rattle.definition.specs.Rows.{flat};
+ghost use Rattle.definition.specs.Rows.{flat, rowSize};
 ghost use Rattle.definition.specs.Text.{lines, putAt};
 ghost use Rattle.rows.specs.Table.{BeforeFits, beforeNumbers};
-
-pub const ROW: usize = 4;
 
 pub const MATCH: u64 = 1;
 
@@ -21,7 +19,7 @@ pub const BREAK: u64 = 5;
 
 // One row, from a place in the table on.
 pub fn put_row(table: &mut [u64], at: usize, row: Row)
-    requires { ⌜ at + 4 ≤ length (now table) ⌝ }
+    requires { ⌜ at + rowSize ≤ length (now table) ⌝ }
     ensures { λ _. ⌜ now (table .exit) ≡ putAt at (flat row) (now (table .entry)) ⌝ }
 {
     table[at] = row.kind;
@@ -52,7 +50,7 @@ pub fn put_before(
             length: length as u64,
             number: number + (k as u64),
         };
-        put_row(table, at + ROW * k, row);
+        put_row(table, at + definition::ROW * k, row);
         i += length;
         k += 1;
     }

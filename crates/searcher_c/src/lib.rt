@@ -6,6 +6,7 @@ use definition::Settings;
 use searcher::Searcher;
 ghost use mathlib.Core.Path.{_≡_};
 ghost use Prim.Native.Nat.{_*_, _≤_};
+ghost use Rattle.definition.specs.Rows.{rowSize};
 ghost use lib.ListN.{length};
 
 // How the search stands once it was fed: how much of the text was taken, and whether the search is over, by a refusal or 0.
@@ -116,10 +117,10 @@ fn ended(s: Searcher, refusal: u64, sum: Sum) -> Searched {
 
 // Mixes in the first rows of a table: each number and its place count.
 fn sum_up(sum: Sum, table: &[u64], rows: usize) -> Sum
-    requires { ⌜ 4 * rows ≤ length (now table) ⌝ }
+    requires { ⌜ rowSize * rows ≤ length (now table) ⌝ }
 {
     let mut mixed = sum.mixed;
-    let end = 4 * rows;
+    let end = definition::ROW * rows;
     let mut i = 0;
     while i < end {
         mixed = mix(mixed, table[i]);

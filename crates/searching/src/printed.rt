@@ -2,6 +2,7 @@
 use definition::End;
 use streams::Pending;
 ghost use Prim.Native.Nat.{_*_, _+_, _≤_};
+ghost use Rattle.definition.specs.Rows.{rowSize};
 ghost use lib.ListN.{length};
 
 pub fn refusal(out: &mut [u8], pending: Pending, number: u64) -> Pending {
@@ -17,12 +18,12 @@ pub fn end(out: &mut [u8], pending: Pending, end: End) -> Pending {
 
 // The first rows of a table.
 pub fn rows(out: &mut [u8], pending: Pending, table: &[u64], count: usize) -> Pending
-    requires { ⌜ 4 * count ≤ length (now table) ⌝ }
+    requires { ⌜ rowSize * count ≤ length (now table) ⌝ }
 {
     let mut told = pending;
     let mut i = 0;
     while i < count {
-        told = row(out, told, table, 4 * i);
+        told = row(out, told, table, definition::ROW * i);
         i += 1;
     }
     told
@@ -30,7 +31,7 @@ pub fn rows(out: &mut [u8], pending: Pending, table: &[u64], count: usize) -> Pe
 
 // A row has kind, offset, length and number; it is printed as kind, number, offset and length.
 fn row(out: &mut [u8], pending: Pending, table: &[u64], at: usize) -> Pending
-    requires { ⌜ at + 4 ≤ length (now table) ⌝ }
+    requires { ⌜ at + rowSize ≤ length (now table) ⌝ }
 {
     numbers(
         out,
