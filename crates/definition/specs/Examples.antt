@@ -147,6 +147,8 @@ Further =
     ∷ ex (settings 0 0 false false false (Most 1) (Quit 0)) (97 ∷ 10 ∷ 0 ∷ []) all (r 1 0 2 1 ∷ []) (e 2 1 1 2 0 0)
     -- the replaced byte is not gone through
     ∷ ex (settings 0 0 false false false (Most 1) (Convert 0)) N all (r 1 0 2 1 ∷ []) (e 2 1 1 2 0 0)
+    -- both of the last two lines before the second match have a row: neither comes again
+    ∷ ex (context 2 1) T (1 ∷ 3 ∷ []) (r 1 0 2 1 ∷ r 3 2 2 2 ∷ r 1 4 2 3 ∷ r 3 6 2 4 ∷ []) (e 10 5 2 0 0 0)
     -- a binary byte that is the terminator: Quit cuts, Convert does nothing
     ∷ ex (settings 0 0 false false false Unlimited (Quit 10)) T all (r 1 0 1 1 ∷ []) (e 1 1 1 1 1 1)
     ∷ ex (settings 0 0 false false false Unlimited (Convert 10)) N (2 ∷ []) (r 1 2 4 2 ∷ []) (e 6 2 1 0 0 0)
