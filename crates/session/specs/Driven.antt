@@ -13,7 +13,6 @@ use Rattle.definition.specs.declared.Going.the-variants.{On}
 use Rattle.definition.specs.declared.Limit.the-variants.{Unlimited, Most}
 use Rattle.definition.specs.declared.Place.the-variants.{Nowhere}
 use Rattle.definition.specs.declared.Settings.{Settings}
-use Rattle.definition.specs.Bounds.{maxInput, maxLimit}
 use Rattle.definition.specs.Examples.{Example, answersAt, context, settings, r, e, N, all, P}
 use Rattle.definition.specs.Rows.{rowSize}
 use Rattle.session.specs.declared.Input.the-variants.{Open}
@@ -184,8 +183,8 @@ Refusals =
     ∷ script (sevens 1)
     (try (context 0 1000) 1
     ∷ try (context 0 1001) 1
-    ∷ try (settings 0 0 false false false (Most maxLimit) Ignore) 1
-    ∷ try (settings 0 0 false false false (Most (maxLimit + 1)) Ignore) 1
+    ∷ try (settings 0 0 false false false (Most 4294967295) Ignore) 1
+    ∷ try (settings 0 0 false false false (Most 4294967296) Ignore) 1
     ∷ try (settings 0 0 false true false Unlimited Ignore) 1
     ∷ try (settings 1 0 false true false Unlimited Ignore) 1
     ∷ try (settings 0 1 false true false Unlimited Ignore) 1
@@ -214,14 +213,14 @@ Refusals =
     ∷ [])
     -- the size: one byte left, then none; 5 before 3; a Quit byte at the front before 5
     ∷ script (120 ∷ 121 ∷ 7 ∷ 7 ∷ [])
-    (hand (madeUp (context 0 0) (maxInput - 1) 0 2) ∷ offer (97 ∷ 98 ∷ []) ∷ offer (98 ∷ []) ∷ [])
+    (hand (madeUp (context 0 0) 4294967294 0 2) ∷ offer (97 ∷ 98 ∷ []) ∷ offer (98 ∷ []) ∷ [])
     (took 0 1 (120 ∷ 121 ∷ 97 ∷ 7 ∷ []) ∷ took 5 0 (120 ∷ 121 ∷ 97 ∷ 7 ∷ []) ∷ [])
-    ∷ script (1 ∷ 2 ∷ 3 ∷ 4 ∷ []) (hand (madeUp (context 0 0) maxInput 0 4) ∷ offer (97 ∷ []) ∷ []) (took 5 0 (1 ∷ 2 ∷ 3 ∷ 4 ∷ []) ∷ [])
+    ∷ script (1 ∷ 2 ∷ 3 ∷ 4 ∷ []) (hand (madeUp (context 0 0) 4294967295 0 4) ∷ offer (97 ∷ []) ∷ []) (took 5 0 (1 ∷ 2 ∷ 3 ∷ 4 ∷ []) ∷ [])
     ∷ script (1 ∷ 2 ∷ 3 ∷ 4 ∷ [])
-    (hand (madeUp (quitting 0) maxInput 0 4) ∷ offer (0 ∷ []) ∷ show ∷ [])
+    (hand (madeUp (quitting 0) 4294967295 0 4) ∷ offer (0 ∷ []) ∷ show ∷ [])
     (took 0 0 (1 ∷ 2 ∷ 3 ∷ 4 ∷ []) ∷ showed 0 (1 ∷ 2 ∷ 3 ∷ 4 ∷ []) ∷ [])
     -- a refused offer does not move what is held
-    ∷ script (1 ∷ 2 ∷ 3 ∷ 4 ∷ []) (hand (madeUp (context 0 0) maxInput 2 4) ∷ offer (97 ∷ []) ∷ []) (took 5 0 (1 ∷ 2 ∷ 3 ∷ 4 ∷ []) ∷ [])
+    ∷ script (1 ∷ 2 ∷ 3 ∷ 4 ∷ []) (hand (madeUp (context 0 0) 4294967295 2 4) ∷ offer (97 ∷ []) ∷ []) (took 5 0 (1 ∷ 2 ∷ 3 ∷ 4 ∷ []) ∷ [])
     -- numbers that contradict each other: more lines than bytes
     ∷ script (1 ∷ 2 ∷ 3 ∷ 4 ∷ []) (hand (madeUp (context 0 0) 4 0 4) ∷ show ∷ offer T3 ∷ []) (showed 6 [] ∷ took 6 0 (1 ∷ 2 ∷ 3 ∷ 4 ∷ []) ∷ [])
     ∷ []
