@@ -1,6 +1,6 @@
 -- The rest starts in what was read.
 use native.Mathlib.Omega.{arith}
-use lib.ListN.{length, length-take}
+use lib.ListN.{length-take}
 use borrow.Author.Needs.{needs}
 use Rattle.replaying.proofs.more.Statement.{statement}
 use Rattle.replaying.proofs.more.Tie as tie

@@ -1,8 +1,7 @@
 -- What is read lies behind what is held, in the input.
 use mathlib.Core.List.{_++_}
 use native.Mathlib.Omega.{arith}
-use mathlib.Core.Path.{_≡_}
-use Prim.Native.Nat.{_-_, _≤_}
+use Prim.Native.Nat.{_-_}
 use lib.ListN.{length, take, drop, length-drop, length-take}
 use Rattle.streams.proofs.Laws.{tail-back}
 use borrow.Author.Needs.{needs}
