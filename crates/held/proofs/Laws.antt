@@ -9,7 +9,7 @@ use lib.Dec.{ltb, leb, eqb}
 use lib.ListN.{length}
 use borrow.Author.Tests.{eq-eqb, ne-eqb, le-leb, lt-leb, le-ltb, lt-ltb, leb-true, ltb-true}
 use Rattle.definition.specs.declared.Settings.{Settings}
-use Rattle.definition.specs.Bounds.{allowed, contextual, limitInRange, maxContext, maxInput, maxWindow}
+use Rattle.definition.specs.Bounds.{allowed, contextual, limitInRange, maxInput, maxWindow}
 use Rattle.definition.specs.Definition.{keptLines, lastOf}
 use Rattle.definition.specs.Text.{firstLength, firstPlace, part}
 use Rattle.definition.proofs.Terminator.{flatten-last}
@@ -186,12 +186,6 @@ waits-none s w h = go (waits s w) h
 pub held-from : (s : Session) (w : List ℕ) → s .next ≤ s .end → s .end - keptFrom s w ≡ heldBytes s w
 unfolding keptFrom heldBytes
 held-from s w h = omega (arith, kept-le s w)
-
-pub before-allowed : (c : Settings) → allowed c ≡ true → c .before ≤ maxContext
-unfolding allowed
-before-allowed c h =
-    leb-true (c .before) maxContext
-    (chain-all (leb (c .before) maxContext) (leb (c .after) maxContext ∷ (limitInRange (c .limit) ∷ (not (c .passthru && contextual c) ∷ []))) h .0)
 
 -- the last n of the lines since the last line with a row, in bytes
 pub since-le : (n : ℕ) (s : Session) (w : List ℕ) → s .floor ≤ s .next → s .next ≤ length w → length (flatten (lastOf n (sinceLines s w))) ≤ s .next - s .floor

@@ -32,6 +32,10 @@ ghost use Rattle.definition.specs.Rows.{rowSize};
 ghost use lib.ListN.{length};
 ghost use Rattle.io.specs.Counts.{Counts};
 
+// The longest answer is that of `window`, its word and two digits for each byte of the room; a line that says `bad line`
+// still fits behind it.
+const LONGEST_ANSWER: usize = 131_200;
+
 // How the script stands.
 pub struct State {
     pub searcher: Searcher,
@@ -89,11 +93,22 @@ pub fn counted(state: State) -> State {
     next
 }
 
-// Writes what is collected; a write that fails ends the program.
+// Writes what is collected where a command's answer might have no room behind it.
+pub fn with_room(state: State, out: &[u8]) -> State {
+    let pending = state.pending;
+    if LONGEST_ANSWER <= out.len() - within(pending.length, out) {
+        return state;
+    }
+    flushed(state, out)
+}
+
+// Writes what is collected. Where that fails, or a text was lost, the script is over, so that the output has no hole.
 pub fn flushed(state: State, out: &[u8]) -> State {
-    let pending = streams::flush(out, state.pending);
-    let mut next = with_pending(state, pending);
-    next.over = state.over | pending.failed;
+    let pending = state.pending;
+    let length = within(pending.length, out);
+    let written = streams::write(&out[..length]);
+    let mut next = with_pending(state, streams::nothing_pending());
+    next.over = state.over | pending.lost | !written;
     next
 }
 

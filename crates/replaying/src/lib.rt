@@ -8,7 +8,7 @@ mod words;
 
 use command::State;
 use lines::Found;
-use streams::Got;
+use streams::Moved;
 ghost use Prim.Native.Nat.{_≤_};
 ghost use lib.ListN.{length};
 
@@ -33,7 +33,7 @@ pub fn play() {
     let mut table = [9u64; 4_016];
     let mut bytes = [0u8; 4_096];
     let mut input = [0u8; 65_536];
-    let mut out = [0u8; 65_536];
+    let mut out = [0u8; 262_144];
     run(&mut room, &mut table, &mut bytes, &mut input, &mut out);
 }
 
@@ -54,7 +54,7 @@ fn run(room: &mut [u8], table: &mut [u64], bytes: &mut [u8], input: &mut [u8], o
     }
 }
 
-// Writes what is collected, then reads once and acts on what came.
+// Writes what is collected, then reads once and acts on what came. Where a signal came first, the next turn reads again.
 fn step(
     now: Turn,
     room: &mut [u8],
@@ -72,9 +72,19 @@ fn step(
         return done(state);
     }
     match streams::read(&mut input[held..]) {
-        Got::Bytes(n) => more(state, room, table, bytes, input, held + n, out),
-        Got::Ended => done(last(state, room, table, bytes, &input[..held], out)),
-        Got::Failed(reason) => done(command::failed(state, out, reason)),
+        Moved::Bytes(n) => more(state, room, table, bytes, input, held + n, out),
+        Moved::Nothing => done(last(state, room, table, bytes, &input[..held], out)),
+        Moved::Interrupted => to_read_on(state, held),
+        Moved::Failed(reason) => done(command::failed(state, out, reason)),
+    }
+}
+
+// The next turn reads behind the bytes that wait.
+fn to_read_on(state: State, held: usize) -> Turn {
+    Turn {
+        state: state,
+        held: held,
+        done: false,
     }
 }
 
@@ -102,11 +112,7 @@ fn more(
     let from = acted.from;
     line_buffer::roll(input, from, to);
     let rest = to - from;
-    Turn {
-        state: bounded(acted.state, rest, out),
-        held: rest,
-        done: false,
-    }
+    to_read_on(bounded(acted.state, rest, out), rest)
 }
 
 // A line that is too long is bad before its end has come.
@@ -130,6 +136,7 @@ fn act_on_lines(
     let mut now = state;
     let mut from = 0;
     while from < input.len() {
+        now = command::with_room(now, out);
         if now.over {
             return Acted {
                 state: now,

@@ -1,13 +1,9 @@
 -- The answers of the session's calls with the session as a searcher: nothing else changes at the door.
-use Prim.Native.Nat.{ℕ}
 use Rattle.session.specs.declared.Answered.{Answered}
 use Rattle.session.specs.declared.Offered.{Offered}
 use Rattle.session.specs.declared.Opened.{Opened}
-use Rattle.session.specs.declared.Recorded.{Recorded}
 use Rattle.session.specs.declared.Session.{Session}
 use Rattle.session.specs.declared.Told.{Told}
-use Rattle.session.specs.Calls.{noRecord}
-use Rattle.session.specs.Sound.{closed}
 use Rattle.searcher.specs.declared.Answered as door-answered
 use Rattle.searcher.specs.declared.Offered as door-offered
 use Rattle.searcher.specs.declared.Opened as door-opened
@@ -28,11 +24,3 @@ doorAnswered a = record { refusal = a .refusal; rows = a .rows; searcher = searc
 
 unfoldable pub doorTold : Told → door-told.Told
 doorTold t = record { refusal = t .refusal; searcher = searcher (t .session) }
-
--- # What the parts of the code give
-
-abbrev pub closedBy : ℕ → door-opened.Opened
-closedBy k = record { refusal = k; searcher = searcher closed }
-
-abbrev pub unrecordedBy : ℕ → Recorded
-unrecordedBy k = record { refusal = k; end = noRecord }

@@ -3,19 +3,12 @@
 use definition::Binary;
 use definition::Limit;
 use definition::Settings;
+use driving::Fed;
+use machine::Next;
 use searcher::Searcher;
-ghost use mathlib.Core.Path.{_≡_};
 ghost use Prim.Native.Nat.{_*_, _≤_};
 ghost use Rattle.definition.specs.Rows.{rowSize};
 ghost use lib.ListN.{length};
-
-// How the search stands once it was fed: how much of the text was taken, and whether the search is over, by a refusal or 0.
-pub struct Fed {
-    pub searcher: Searcher,
-    pub at: usize,
-    pub over: bool,
-    pub refusal: u64,
-}
 
 // How many rows there were, and a number mixed of all their numbers.
 pub struct Sum {
@@ -72,7 +65,7 @@ pub extern "C" fn searcher_search(
     told[6] = end.cause;
 }
 
-// The loop of the program `search`, over a text in memory. The one call each of line, answer and offer is here or below, so
+// The loop of the program `search`, over a text in memory. The one call each of line, answer and feed is here or below, so
 // that they are compiled into the loop. Turns are a bound for the proof: nothing lasts so long.
 fn search_text(
     searcher: Searcher,
@@ -95,11 +88,15 @@ fn search_text(
             s = answered.searcher;
             sum = sum_up(sum, table, answered.rows);
         } else {
-            let fed = feed(s, answered.refusal, window, text, at, piece);
+            let fed = feed(s, answered.refusal, window, first(&text[at..], piece));
             s = fed.searcher;
-            at = fed.at;
-            if fed.over {
-                return ended(s, fed.refusal, sum);
+            at += fed.taken;
+            let next = fed.next;
+            match next {
+                Next::Goes => {}
+                Next::Wants => return ended(s, 0, sum),
+                Next::Refuses(refusal) => return ended(s, refusal, sum),
+                Next::Ends(_) => return ended(s, 0, sum),
             }
         }
     }
@@ -138,54 +135,18 @@ fn mix(mixed: u64, x: u64) -> u64 {
     std::num::wrapping_add_u64(twice, mixed) ^ x
 }
 
-// An answer was refused. By 6: no line waits, so it is over where the end record is served; else what comes next is offered,
-// or the end told.
-fn feed(s: Searcher, refusal: u64, window: &mut [u8], text: &[u8], at: usize, piece: usize) -> Fed
-    requires { ⌜ at ≤ length (now text) ⌝ }
-    ensures { λ r. ⌜ r .at ≤ length (now (text .entry)) ⌝ }
+// An answer was refused. Where nothing is left of the text its end is told.
+fn feed(s: Searcher, refusal: u64, window: &mut [u8], piece: &[u8]) -> Fed
+    ensures { λ r. ⌜ r .taken ≤ length (now (piece .entry)) ⌝ }
 {
-    if refusal != 6 {
-        return over(s, refusal);
-    }
-    let recorded = s.end_record();
-    if recorded.refusal != 7 {
-        return over(s, recorded.refusal);
-    }
-    if at < text.len() {
-        return offer(s, window, text, at, piece);
-    }
-    let told = s.tell_end();
-    let next = told.searcher;
-    Fed {
-        searcher: next,
-        at: at,
-        over: told.refusal != 0,
-        refusal: told.refusal,
-    }
-}
-
-fn over(s: Searcher, refusal: u64) -> Fed
-    ensures { λ r. ⌜ r .at ≡ 0 ⌝ }
-{
-    Fed {
-        searcher: s,
-        at: 0,
-        over: true,
-        refusal: refusal,
-    }
-}
-
-fn offer(s: Searcher, window: &mut [u8], text: &[u8], at: usize, piece: usize) -> Fed
-    requires { ⌜ at ≤ length (now text) ⌝ }
-    ensures { λ r. ⌜ r .at ≤ length (now (text .entry)) ⌝ }
-{
-    let offered = s.offer(window, first(&text[at..], piece));
-    let next = offered.searcher;
-    Fed {
-        searcher: next,
-        at: at + offered.taken,
-        over: offered.refusal != 0,
-        refusal: offered.refusal,
+    let fed = driving::feed(s, refusal, window, piece);
+    let searcher = fed.searcher;
+    let next = fed.next;
+    match next {
+        Next::Goes => fed,
+        Next::Wants => driving::tell_end(searcher),
+        Next::Refuses(_) => fed,
+        Next::Ends(_) => fed,
     }
 }
 

@@ -1,2 +1,2 @@
--- Laws of the places in the input.
-pub mod Laws
+-- Laws of reads and writes in turn.
+pub mod Running

@@ -1,43 +1,22 @@
 // The program `search`. Standard input has a line `before after invert pass limit`, a line with the literal, then the text.
 // Rows are printed as they come, `kind number offset length` a line, then `end bytes lines matches cause`; in place of
 // that, `refused` with the refusal's number, or `failed read`.
-mod head;
-mod printed;
-
-use definition::Binary;
-use definition::Settings;
-use forms::Asked;
-use head::Head;
+//
+// What it does between a read and a write is that of `search_machine`, on lent buffers; `serve` and `step` alone read and write.
 use literal::Pair;
+use search_machine::Phase;
+use search_machine::Search;
+use search_machine::Stage;
 use searcher::Searcher;
-use streams::Got;
-use streams::Pending;
+use streams::Moved;
 ghost use mathlib.Core.Path.{_≡_};
-ghost use Prim.Native.Nat.{_≤_};
+ghost use mathlib.Core.List.{List};
+ghost use Prim.Native.Nat.{ℕ, _+_, _≤_, _<_};
 ghost use lib.ListN.{length};
-ghost use Rattle.searching.specs.Places.{Left, Pieced};
-
-// What there is to offer next.
-pub enum Next {
-    Piece(usize, usize),
-    Ended,
-    Failed(i32),
-    Unwritten,
-}
-
-pub struct Refilled {
-    pub next: Next,
-    pub pending: Pending,
-}
-
-// How the search stands once it was fed: what of the input is still to be offered, and whether all is told.
-pub struct Fed {
-    pub searcher: Searcher,
-    pub from: usize,
-    pub to: usize,
-    pub pending: Pending,
-    pub over: bool,
-}
+ghost use Rattle.streams.specs.declared.Moved.the-variants.{Nothing};
+ghost use Rattle.search_machine.specs.Search.{starts};
+ghost use Rattle.search_machine.specs.Standing.{Collects, Heard, Hearing, Lent, Ready, Rests, Stepped, Turned, begins, seen, withMore, writtenOut};
+ghost use Rattle.printing.specs.Texts.{lineMost};
 
 pub fn run() {
     let mut window = [0u8; 4_096];
@@ -45,236 +24,154 @@ pub fn run() {
     let mut table = [0u64; 4_008];
     let mut literal = [0u8; 1_024];
     let mut input = [0u8; 65_536];
-    let mut out = [0u8; 65_536];
-    let pending = search(&mut window, &mut table, &mut literal, &mut input, &mut out);
-    streams::flush(&out, pending);
+    // room for what one turn prints, several times
+    let mut out = [0u8; 262_144];
+    serve(&mut window, &mut table, &mut literal, &mut input, &mut out);
 }
 
-// The first line, which says what to open.
-fn search(
-    window: &mut [u8],
-    table: &mut [u64],
-    literal: &mut [u8],
-    input: &mut [u8],
-    out: &mut [u8],
-) -> Pending
-    requires { ⌜ 1024 ≤ length (now literal) ⌝ }
+// Makes a step and writes what is then pending, until all is told. Turns are a bound for the proof: nothing lasts so long.
+fn serve(window: &mut [u8], table: &mut [u64], literal: &mut [u8], input: &mut [u8], out: &mut [u8])
+    requires { ⌜ Lent (now window) (now table) (now literal) (now input) (now out) ⌝ }
 {
-    match head::line(input, 0, 0) {
-        Head::Line(end, to) => match forms::first_line(&input[..end]) {
-            Asked::For(settings) => opened(
-                settings,
-                window,
-                table,
-                literal,
-                input,
-                end + 1,
-                to,
-                out,
-            ),
-            Asked::OtherForm => printed::refusal(out, streams::nothing_pending(), 1),
-        },
-        Head::Missing => printed::refusal(out, streams::nothing_pending(), 1),
-        Head::Failed(reason) => streams::tell_failed_read(out, streams::nothing_pending(), reason),
-    }
-}
-
-// The second line, which has the literal; it moves to a room of its own, since the input is read over.
-fn opened(
-    settings: Settings,
-    window: &mut [u8],
-    table: &mut [u64],
-    literal: &mut [u8],
-    input: &mut [u8],
-    from: usize,
-    to: usize,
-    out: &mut [u8],
-) -> Pending
-    requires { ⌜ (1024 ≤ length (now literal)) × (from ≤ to) × (to ≤ length (now input)) ⌝ }
-{
-    let opened = Searcher::open(settings, window.len());
-    if opened.refusal != 0 {
-        return printed::refusal(out, streams::nothing_pending(), opened.refusal);
-    }
-    match head::line(input, from, to) {
-        Head::Line(end, filled) => {
-            let size = end - from;
-            line_buffer::take_in(literal, 0, &input[from..end], Binary::Ignore, 0);
-            search_text(
-                opened.searcher,
-                &literal[..size],
-                window,
-                table,
-                input,
-                end + 1,
-                filled,
-                out,
-            )
-        }
-        Head::Missing => printed::refusal(out, streams::nothing_pending(), 1),
-        Head::Failed(reason) => streams::tell_failed_read(out, streams::nothing_pending(), reason),
-    }
-}
-
-// Shows, matches and answers line after line, and offers more where none waits. The one call each of line, answer and
-// offer is here or below, so that they are compiled into the loop. Turns are a bound for the proof: nothing lasts so long.
-fn search_text(
-    searcher: Searcher,
-    literal: &[u8],
-    window: &mut [u8],
-    table: &mut [u64],
-    input: &mut [u8],
-    from: usize,
-    to: usize,
-    out: &mut [u8],
-) -> Pending
-    requires { ⌜ to ≤ length (now input) ⌝ }
-{
-    let pair = literal::choose(literal);
-    let mut s = searcher;
-    let mut at = from;
-    let mut end = to;
-    let mut pending = streams::nothing_pending();
+    let mut s = start();
     let mut turns = u64::MAX;
     while 0 < turns {
         turns -= 1;
-        let hit = literal::contains_by(s.line(window), literal, pair);
-        let answered = s.answer(window, table, hit);
-        if answered.refusal == 0 {
-            s = answered.searcher;
-            pending = printed::rows(out, pending, table, answered.rows);
-        } else {
-            let fed = feed(s, answered.refusal, window, input, at, end, out, pending);
-            if fed.over {
-                return fed.pending;
-            }
-            s = fed.searcher;
-            at = fed.from;
-            end = fed.to;
-            pending = fed.pending;
+        let stepped = step(s, window, table, literal, input, out);
+        let pending = stepped.pending;
+        let length = pending.length;
+        if !streams::write(&out[..length]) {
+            return;
+        }
+        s = written(stepped);
+        let phase = s.phase;
+        match phase {
+            Phase::Going => {}
+            Phase::Wants => {}
+            Phase::Over => return,
         }
     }
-    pending
 }
 
-// An answer was refused. By 6: no line waits, so the end record comes where that is served, as it is after a stop; else
-// what comes next is offered.
-fn feed(
-    s: Searcher,
-    refusal: u64,
+// Reads where a read is wanted; else makes turns.
+fn step(
+    s: Search,
     window: &mut [u8],
+    table: &mut [u64],
+    literal: &mut [u8],
     input: &mut [u8],
-    from: usize,
-    to: usize,
     out: &mut [u8],
-    pending: Pending,
-) -> Fed
-    requires { ⌜ to ≤ length (now input) ⌝ }
-    ensures { λ r. ⌜ Left r (now (input .exit)) ⌝ }
+) -> Search
+    requires { ⌜ Rests s (now input) × Lent (now window) (now table) (now literal) (now input) (now out) ⌝ }
+    ensures { λ r. ⌜ Rests (writtenOut r) (now (input .exit)) × Collects r (now (out .exit)) ⌝ }
+    ensures { λ r. ⌜ Stepped (s .phase) s (now (window .entry)) (now (literal .entry)) (now (input .entry)) r (now (window .exit)) (now (literal .exit)) (now (input .exit)) (now (out .exit)) ⌝ }
 {
-    if refusal != 6 {
-        return over(s, printed::refusal(out, pending, refusal));
-    }
-    let recorded = s.end_record();
-    if recorded.refusal == 0 {
-        return over(s, printed::end(out, pending, recorded.end));
-    }
-    let refilled = refill(input, from, to, out, pending);
-    let next = refilled.next;
-    let kept = refilled.pending;
-    match next {
-        Next::Piece(a, e) => offer(s, window, input, a, e, out, kept),
-        Next::Ended => tell(s, out, kept),
-        Next::Failed(reason) => over(s, streams::tell_failed_read(out, kept, reason)),
-        Next::Unwritten => over(s, kept),
+    let phase = s.phase;
+    match phase {
+        Phase::Going => go_on(s, window, table, literal, input, out),
+        Phase::Wants => {
+            let held = s.to;
+            let got = streams::read(&mut input[held..]);
+            heard(s, got, input, out)
+        }
+        Phase::Over => s,
     }
 }
 
-fn over(s: Searcher, pending: Pending) -> Fed
-    ensures { λ r. ⌜ r .to ≡ 0 ⌝ }
+fn start() -> Search
+    ensures { λ r. ⌜ r ≡ begins ⌝ }
+    ensures { λ r. ⌜ ((window literal input : List ℕ) → seen r window literal input ≡ starts window) ⌝ }
 {
-    Fed {
-        searcher: s,
+    Search {
+        stage: Stage::First,
+        phase: Phase::Going,
+        searcher: Searcher::closed(),
+        size: 0,
+        pair: Pair {
+            first: 0,
+            second: 0,
+        },
         from: 0,
         to: 0,
-        pending: pending,
-        over: true,
+        pending: streams::nothing_pending(),
     }
 }
 
-// What is left of the input, or a read of more, before which all that is collected is written.
-fn refill(input: &mut [u8], from: usize, to: usize, out: &[u8], pending: Pending) -> Refilled
-    requires { ⌜ to ≤ length (now input) ⌝ }
-    ensures { λ r. ⌜ Pieced (r .next) (now (input .exit)) ⌝ }
+// What was pending is written.
+fn written(s: Search) -> Search
+    ensures { λ r. ⌜ r ≡ writtenOut s ⌝ }
 {
-    if from < to {
-        return Refilled {
-            next: Next::Piece(from, to),
-            pending: pending,
-        };
-    }
-    let flushed = streams::flush(out, pending);
-    if flushed.failed {
-        return Refilled {
-            next: Next::Unwritten,
-            pending: flushed,
-        };
-    }
-    Refilled {
-        next: read(input),
-        pending: flushed,
-    }
+    let mut next = s;
+    next.pending = streams::nothing_pending();
+    next
 }
 
-fn read(input: &mut [u8]) -> Next
-    ensures { λ r. ⌜ Pieced r (now (input .exit)) ⌝ }
-{
-    match streams::read(input) {
-        Got::Bytes(n) => Next::Piece(0, n),
-        Got::Ended => Next::Ended,
-        Got::Failed(reason) => Next::Failed(reason),
-    }
-}
-
-fn offer(
-    s: Searcher,
+// Turns, until a read is wanted, the output is nearly full, or all is told; in the first two lines one turn.
+fn go_on(
+    s: Search,
     window: &mut [u8],
-    input: &[u8],
-    from: usize,
-    to: usize,
+    table: &mut [u64],
+    literal: &mut [u8],
+    input: &mut [u8],
     out: &mut [u8],
-    pending: Pending,
-) -> Fed
-    requires { ⌜ (from ≤ to) × (to ≤ length (now input)) ⌝ }
-    ensures { λ r. ⌜ Left r (now (input .entry)) ⌝ }
+) -> Search
+    requires { ⌜ Ready s (now window) (now table) (now literal) (now input) (now out) ⌝ }
+    ensures { λ r. ⌜ Turned (seen s (now (window .entry)) (now (literal .entry)) (now (input .entry))) r (now (window .exit)) (now (literal .exit)) (now (input .exit)) (now (out .exit)) ⌝ }
 {
-    let offered = s.offer(window, &input[from..to]);
-    if offered.refusal != 0 {
-        return over(s, printed::refusal(out, pending, offered.refusal));
-    }
-    let next = offered.searcher;
-    Fed {
-        searcher: next,
-        from: from + offered.taken,
-        to: to,
-        pending: pending,
-        over: false,
+    let stage = s.stage;
+    match stage {
+        Stage::First => heading::first(s, window, literal, input, out),
+        Stage::Second => heading::second(s, window, literal, input, out),
+        Stage::Text => turning::turns(s, window, table, literal, input, out),
     }
 }
 
-fn tell(s: Searcher, out: &mut [u8], pending: Pending) -> Fed
-    ensures { λ r. ⌜ r .to ≡ 0 ⌝ }
+// What a read gave: bytes behind those that were left, the end, or a failure, which is never the end.
+fn heard(s: Search, got: Moved, input: &[u8], out: &mut [u8]) -> Search
+    requires { ⌜ Hearing s got (now input) (now out) ⌝ }
+    ensures { λ r. ⌜ ((window literal : List ℕ) → Heard s got window literal (now (input .entry)) r (now (out .exit))) ⌝ }
 {
-    let told = s.tell_end();
-    if told.refusal != 0 {
-        return over(s, printed::refusal(out, pending, told.refusal));
+    match got {
+        Moved::Bytes(n) => more(s, n),
+        Moved::Nothing => ended(s, out),
+        Moved::Interrupted => s,
+        Moved::Failed(reason) => heading::over(
+            s,
+            streams::tell_failed_read(out, s.pending, reason),
+        ),
     }
-    let next = told.searcher;
-    Fed {
-        searcher: next,
-        from: 0,
-        to: 0,
+}
+
+// So many bytes lie behind what was left.
+fn more(s: Search, n: usize) -> Search
+    requires { ⌜ s .to + n < 9223372036854775808 ⌝ }
+    ensures { λ r. ⌜ r ≡ withMore s n ⌝ }
+{
+    let stage = s.stage;
+    let searcher = s.searcher;
+    let pair = s.pair;
+    let pending = s.pending;
+    Search {
+        stage: stage,
+        phase: Phase::Going,
+        searcher: searcher,
+        size: s.size,
+        pair: pair,
+        from: s.from,
+        to: s.to + n,
         pending: pending,
-        over: false,
+    }
+}
+
+// The end has come. In the first two lines that is a refusal: either misses its newline.
+fn ended(s: Search, out: &mut [u8]) -> Search
+    requires { ⌜ s .pending .length + lineMost ≤ length (now out) ⌝ }
+    ensures { λ r. ⌜ ((window literal input : List ℕ) → Hearing s Nothing input (now (out .entry)) → Heard s Nothing window literal input r (now (out .exit))) ⌝ }
+{
+    let stage = s.stage;
+    match stage {
+        Stage::First => heading::over(s, printing::refusal(out, s.pending, 1)),
+        Stage::Second => heading::over(s, printing::refusal(out, s.pending, 1)),
+        Stage::Text => turning::ended(s, out),
     }
 }

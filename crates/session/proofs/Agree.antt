@@ -1,10 +1,12 @@
 -- The list of contradictions as facts, and that each call keeps them, whatever the window holds.
-use Prim.Native.Nat.{_+_, _-_}
+use Prim.Native.Nat.{_+_, _-_, _≤_}
 use mathlib.Core.Path.{_≡_, refl}
-use mathlib.Core.Bool.{Bool, true, and-eq-true-iff}
+use mathlib.Core.Bool.{Bool, true, and-eq-true-iff, not, _&&_}
 use mathlib.Core.List.{List, [], _∷_}
+use lib.Dec.{leb}
 use borrow.Author.Tests.{ltb-true, leb-true, lt-ltb, le-leb}
-use Rattle.definition.specs.Bounds.{maxInput, maxWindow}
+use Rattle.definition.specs.declared.Settings.{Settings}
+use Rattle.definition.specs.Bounds.{allowed, contextual, limitInRange, maxContext, maxInput, maxWindow}
 use Rattle.session.specs.declared.Session.{Session}
 use Rattle.session.specs.Sound.{Agree, agrees, every, takenBytes, tests}
 
@@ -71,3 +73,13 @@ agrees-of s a =
         ),
       ),
     )
+
+pub before-allowed : (c : Settings) → allowed c ≡ true → c .before ≤ maxContext
+unfolding allowed
+before-allowed c h =
+    let b = leb (c .before) maxContext in
+    let a = leb (c .after) maxContext in
+    let l = limitInRange (c .limit) in
+    let n = not (c .passthru && contextual c) in
+    leb-true (c .before) maxContext
+    (and-eq-true-iff b a .0 (and-eq-true-iff (b && a) l .0 (and-eq-true-iff (b && a && l) n .0 h .0) .0) .0)

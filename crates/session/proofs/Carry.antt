@@ -53,7 +53,7 @@ not-idle s piece = go (eqb (length piece) 0) (isOpen (s .input)) (isOn (s .going
     go false true true e i h k = (omega (arith, eqb-false (length piece) 0 e), i, is-on (s .going) h)
 
 -- how much is left to do
-abbrev openBit : Input → ℕ
+abbrev pub openBit : Input → ℕ
 openBit Open = 1
 openBit Ended = 0
 openBit QuitFound = 0
@@ -62,7 +62,7 @@ bit-most : (q : Bool) → openBit (cond q QuitFound Open) ≤ 1
 bit-most true = omega arith
 bit-most false = omega arith
 
-weight : Session → List ℕ → ℕ
+unfoldable pub weight : Session → List ℕ → ℕ
 weight s rest = 2 * length rest + (s .end - s .next) + openBit (s .input)
 
 -- after an offer that takes a byte or finds the Quit byte less is left
@@ -94,16 +94,16 @@ pub or-false : (a b : Bool) → (a || b) ≡ false → (a ≡ false) × (b ≡ f
 or-false true b e = absurd (true≢false e)
 or-false false b e = (refl, e)
 
-is-open : (n : Input) → isOpen n ≡ true → n ≡ Open
+pub is-open : (n : Input) → isOpen n ≡ true → n ≡ Open
 is-open Open e = refl
 is-open Ended e = absurd (true≢false (sym e))
 is-open QuitFound e = absurd (true≢false (sym e))
 
-stopped-ends : (s : Session) → isOn (s .going) ≡ false → remains s ≡ false
+pub stopped-ends : (s : Session) → isOn (s .going) ≡ false → remains s ≡ false
 unfolding remains
 stopped-ends s e = rw e
 
-held-ends : (s : Session) → isOpen (s .input) ≡ false → s .end ≤ s .next → remains s ≡ false
+pub held-ends : (s : Session) → isOpen (s .input) ≡ false → s .end ≤ s .next → remains s ≡ false
 unfolding remains
 held-ends s o h = rw (o, le-ltb (s .next) (s .end) h) (and-false (isOn (s .going)))
 
@@ -176,26 +176,33 @@ module _ (input : List ℕ) (answers : ℕ → Bool) (s : Session) (w rest : Lis
 
   -- # What is left gets lighter
 
-  offer-falls : Within (s .settings) input → waits s w ≡ false → s .input ≡ Open → s .going ≡ On → 0 < length rest
-      → (k : ℕ) → k ≡ length rest → (o : Offering) → OfferCase s w (take k rest) o
+  pub offer-falls : waits s w ≡ false → s .input ≡ Open → s .going ≡ On → (k : ℕ) → 0 < length (take k rest)
+      → (o : Offering) → OfferCase s w (take k rest) o
       → (offerAnswer o s w (take k rest) .refusal ≡ 3)
-      ⊎ (weight (offerAnswer o s w (take k rest) .session) (drop (offerAnswer o s w (take k rest) .taken) rest) < weight s rest)
+      ⊎ ((offerAnswer o s w (take k rest) .refusal ≡ 5)
+      ⊎ ((offerAnswer o s w (take k rest) .refusal ≡ 0)
+      × (weight (offerAnswer o s w (take k rest) .session) (drop (offerAnswer o s w (take k rest) .taken) rest) < weight s rest)))
   unfolding taking
-  offer-falls h v n g l k z _ (unsound e) = absurd (true≢false (sym (sound-now input answers s w rest count given i) ∙ e))
-  offer-falls h v n g l k z _ (idling e d) = absurd (true≢false (sym d ∙ busy s (take k rest) (omega (arith, length-take k rest)) n g))
-  offer-falls h v n g l k z _ (quits e d q) =
-      inr (stored-falls s w (take k rest) rest (i .agree) n (fitting s w (take k rest)) _ (fitting-rest s w k rest)
-      (inr (front-quits s w (take k rest) q)))
-  offer-falls h v n g l k z _ (sized p m) =
-      absurd (omega (arith, m, size-left h (more-text k (not-idle s (take k rest) (p .1) .0) (p .2) .1)))
-  offer-falls h v n g l k z _ (full p m u f) = inl refl
-  offer-falls h v n g l k z _ (takes p m r) =
+  offer-falls v n g k l _ (unsound e) = absurd (true≢false (sym (sound-now input answers s w rest count given i) ∙ e))
+  offer-falls v n g k l _ (idling e d) = absurd (true≢false (sym d ∙ busy s (take k rest) l n g))
+  offer-falls v n g k l _ (quits e d q) =
+      inr (inr (
+        refl,
+        stored-falls s w (take k rest) rest (i .agree) n (fitting s w (take k rest)) _ (fitting-rest s w k rest)
+            (inr (front-quits s w (take k rest) q)),
+      ))
+  offer-falls v n g k l _ (sized p m) = inr (inl refl)
+  offer-falls v n g k l _ (full p m u f) = inl refl
+  offer-falls v n g k l _ (takes p m r) =
       let room : heldBytes s w < s .window = ⊎-elim (λ t. absurd (true≢false (sym t ∙ v))) (λ t. t) r in
       let front = more-text k (not-idle s (take k rest) (p .1) .0) (p .2) .0 in
-      inr (stored-falls s w (take k rest) rest (i .agree) n (fitting s w (take k rest)) _ (fitting-rest s w k rest)
-      (inl (fitting-some s w (take k rest) front room m)))
+      inr (inr (
+        refl,
+        stored-falls s w (take k rest) rest (i .agree) n (fitting s w (take k rest)) _ (fitting-rest s w k rest)
+            (inl (fitting-some s w (take k rest) front room m)),
+      ))
 
-  answer-falls : (hit : Bool) → waits s w ≡ true → weight (answerSession s w hit) rest < weight s rest
+  pub answer-falls : (hit : Bool) → waits s w ≡ true → weight (answerSession s w hit) rest < weight s rest
   unfolding weight answerSession stepped
   answer-falls hit v = omega (arith, waiting-length s w v, line-le s w)
 
@@ -203,12 +210,12 @@ module _ (input : List ℕ) (answers : ℕ → Bool) (s : Session) (w rest : Lis
   unfolding weight toldSession
   toldSession-falls e g = omega (arith, ap₂ (λ k n. openBit (inputTold k n)) g e, ap openBit e)
 
-  told-falls : s .input ≡ Open → s .going ≡ On → weight (told s .session) rest < weight s rest
+  pub told-falls : s .input ≡ Open → s .going ≡ On → weight (told s .session) rest < weight s rest
   unfolding told
   told-falls e g = rw (agrees-of s (i .agree)) (toldSession-falls e g)
 
   -- once the input is no longer open, a run that goes on with no line waiting holds nothing unanswered
-  nothing-held : waits s w ≡ false → isOn (s .going) ≡ true → isOpen (s .input) ≡ false → s .end ≤ s .next
+  pub nothing-held : waits s w ≡ false → isOn (s .going) ≡ true → isOpen (s .input) ≡ false → s .end ≤ s .next
   unfolding waits
   nothing-held v g o =
       let n = length (unanswered s w) in
@@ -243,8 +250,12 @@ module _ (input : List ℕ) (answers : ℕ → Bool) (a : At) (i : InvAt input a
       let s = a .session in
       let w = a .window in
       let k = length (a .rest) in
-      ⊎-elim (λ e. inl (k, e)) (λ e. inr (atOffer k a, offer k here, e))
-      (offer-falls input answers s w (a .rest) (a .count) (a .rows) i h v n g l k refl _ (offer-case s w (take k (a .rest))))
+      let case = offer-case s w (take k (a .rest)) in
+      let never : offered s w (take k (a .rest)) .refusal ≡ 5 → ⊥ =
+      λ e. ⊎-elim (λ z. omega (arith, e, z)) (λ z. omega (arith, e, z)) (offer-served input answers s w (a .rest) (a .count) (a .rows) i h k _ case)
+      in
+      ⊎-elim (λ e. inl (k, e)) (λ more. inr (⊎-elim (λ e. absurd (never e)) (λ e. (atOffer k a, offer k here, e .1)) more))
+      (offer-falls input answers s w (a .rest) (a .count) (a .rows) i v n g k (omega (arith, l, length-take k (a .rest))) _ case)
 
   tell-turn : a .session .input ≡ Open → a .session .going ≡ On → a .rest ≡ [] → Lighter answers a
   tell-turn n g e = (atEnd a, tell (λ _ _. e) here, told-falls input answers (a .session) (a .window) (a .rest) (a .count) (a .rows) i n g)

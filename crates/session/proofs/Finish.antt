@@ -33,13 +33,13 @@ use Rattle.session.proofs.Keeps.{is-on}
 -- # Whether a Quit byte was met
 
 -- bytes that are not cut hold none
-quit-none : (k : Binary) (t : ℕ) (past : List ℕ) → length (textUnder k t past) ≡ length past → quitMet k past ≡ false
+pub quit-none : (k : Binary) (t : ℕ) (past : List ℕ) → length (textUnder k t past) ≡ length past → quitMet k past ≡ false
 unfolding firstPlace
 quit-none Ignore t past u = refl
 quit-none (Quit b) t past u = le-ltb (length (upTo b past)) (length past) (omega (arith, u))
 quit-none (Convert b) t past u = refl
 
-quit-later : (k : Binary) (t : ℕ) (past rest : List ℕ) → length (textUnder k t past) ≡ length past → quitMet k rest ≡ true → quitMet k (past ++ rest) ≡ true
+pub quit-later : (k : Binary) (t : ℕ) (past rest : List ℕ) → length (textUnder k t past) ≡ length past → quitMet k rest ≡ true → quitMet k (past ++ rest) ≡ true
 unfolding firstPlace
 quit-later Ignore t past rest u q = q
 quit-later (Quit b) t past rest u q =

@@ -132,7 +132,7 @@ module _ (input : List ℕ) (answers : ℕ → Bool) (s : Session) (w rest : Lis
   unfolding trim shown
   going-is = ap (λ (t : State). t .going) (i .state-is)
 
-  lines-is : s .lines ≡ state (s .settings) answers (begun (s .settings)) (i .gone) .lines
+  pub lines-is : s .lines ≡ state (s .settings) answers (begun (s .settings)) (i .gone) .lines
   unfolding trim shown
   lines-is = ap (λ (t : State). t .lines) (i .state-is)
 
@@ -174,23 +174,31 @@ module _ (input : List ℕ) (answers : ℕ → Bool) (s : Session) (w rest : Lis
         ∙ ap (λ k. stepState k c b (length (line s w)) (answers (b .lines + 1))) on-now
         ∙ ap₂ (λ n m. stepState On c b n (answers (m + 1))) (line-length s w (i .agree) (i .window-is) v) number-now
 
-    rows-now : rows (s .settings) answers (begun (s .settings)) (i .gone ++ (line s w ∷ []))
-        ≡ given ++ answerRows s w (answers (count + 1))
-    unfolding rows answerRows
-    rows-now =
+    -- the rows that the definition's next step gives are those of the answer
+    pub rows-step :
+        let c = s .settings in
+        let b = state c answers (begun c) (i .gone) in
+        stepRows (b .going) c b (length (line s w)) (answers (b .lines + 1)) ≡ answerRows s w (answers (count + 1))
+    unfolding answerRows
+    rows-step =
         let c = s .settings in
         let b = state c answers (begun c) (i .gone) in
         let hit = answers (count + 1) in
         let len = lineLength s w in
-        let step : stepRows (b .going) c b (length (line s w)) (answers (b .lines + 1)) ≡ stepRows On c (shown s w) len hit =
         ap (λ k. stepRows k c b (length (line s w)) (answers (b .lines + 1))) on-now
         ∙ ap₂ (λ n m. stepRows On c b n (answers (m + 1))) (line-length s w (i .agree) (i .window-is) v) number-now
         ∙ sym (trim-stepRows On c b len hit)
         ∙ ap (λ (t : State). stepRows On c t len hit) (sym (i .state-is))
         ∙ trim-stepRows On c (shown s w) len hit
-        in
+
+    rows-now : rows (s .settings) answers (begun (s .settings)) (i .gone ++ (line s w ∷ []))
+        ≡ given ++ answerRows s w (answers (count + 1))
+    unfolding rows
+    rows-now =
+        let c = s .settings in
+        let b = state c answers (begun c) (i .gone) in
         rows-append c answers (begun c) (i .gone) (line s w ∷ [])
-        ∙ ap₂ (λ (xs ys : List Row). xs ++ ys) (sym (i .rows-are)) (append-nil (stepRows (b .going) c b (length (line s w)) (answers (b .lines + 1))) ∙ step)
+        ∙ ap₂ (λ (xs ys : List Row). xs ++ ys) (sym (i .rows-are)) (append-nil (stepRows (b .going) c b (length (line s w)) (answers (b .lines + 1))) ∙ rows-step)
 
     shown-now : trim (s .settings) (shown (answerSession s w (answers (count + 1))) w)
         ≡ trim (s .settings) (state (s .settings) answers (begun (s .settings)) (i .gone ++ (line s w ∷ [])))

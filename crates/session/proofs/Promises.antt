@@ -32,7 +32,7 @@ use Rattle.session.proofs.Invariant.{Inv, sound-now, taken-is}
 use Rattle.session.proofs.Room.{cut-shorter, not-ended, not-past, same-count, too-long}
 
 -- the part shown is the waiting line without its terminator
-shown-handed : (s : Session) (w : List ℕ) → waiting s w ≡ LineWaits → shownLine s w ≡ handed (s .settings .terminator) (line s w)
+pub shown-handed : (s : Session) (w : List ℕ) → waiting s w ≡ LineWaits → shownLine s w ≡ handed (s .settings .terminator) (line s w)
 unfolding shownLine line lineLength unanswered
 shown-handed s w e =
     let t = s .settings .terminator in
@@ -55,7 +55,7 @@ module _ (input : List ℕ) (answers : ℕ → Bool) (s : Session) (w rest : Lis
       ∙ rows-append c answers (begun c) (i .gone) later
       ∙ ap (λ (xs : List Row). xs ++ rows c answers (state c answers (begun c) (i .gone)) later) (sym (i .rows-are))
 
-  finished-inv : recorded s .refusal ≡ 0 → (given ≡ rowsOf (s .settings) input answers) × (recorded s .end ≡ endOf (s .settings) input answers)
+  pub finished-inv : recorded s .refusal ≡ 0 → (given ≡ rowsOf (s .settings) input answers) × (recorded s .end ≡ endOf (s .settings) input answers)
   unfolding finalState trim shown
   finished-inv e =
       let c = s .settings in
@@ -69,7 +69,7 @@ module _ (input : List ℕ) (answers : ℕ → Bool) (s : Session) (w rest : Lis
             ∙ sym (same-end c input answers),
       )
 
-  handed-inv : waiting s w ≡ LineWaits → (before : List (List ℕ)) × (l : List ℕ) × (later : List (List ℕ))
+  pub handed-inv : waiting s w ≡ LineWaits → (before : List (List ℕ)) × (l : List ℕ) × (later : List (List ℕ))
       × (lines (s .settings .terminator) (text (s .settings) input) ≡ before ++ (l ∷ later))
       × (length before ≡ count)
       × (shownLine s w ≡ handed (s .settings .terminator) l)
@@ -129,14 +129,24 @@ line-after before l later n e =
     let m : n + 1 - 1 ≡ n = omega arith in
     rw (m, drop-at before (l ∷ later) n e) (append-nil l)
 
+module _ (matcher : List ℕ → Bool) (input : List ℕ) (s : Session) (w rest : List ℕ) (count : ℕ) (given : List Row)
+    (i : Inv input (answersOf matcher (s .settings) input) s w rest count given) where
+  pub asked-inv : waiting s w ≡ LineWaits → answersOf matcher (s .settings) input (count + 1) ≡ matcher (shownLine s w)
+  unfolding answersOf
+  asked-inv e =
+      let h = handed-inv input (answersOf matcher (s .settings) input) s w rest count given i e in
+      let t = s .settings .terminator in
+      ap (λ (x : List (List ℕ)). matcher (handed t (flatten (take 1 (drop (count + 1 - 1) x))))) (h .3)
+      ∙ ap (λ (l : List ℕ). matcher (handed t l)) (line-after (h .0) (h .1) (h .2) count (h .4))
+      ∙ ap matcher (sym (h .5))
+
 pub asked : Asked
-unfolding answersOf
 asked matcher c input a r e =
-    let h = handed-line c input (answersOf matcher c input) a r e in
-    let t = c .terminator in
-    ap (λ (x : List (List ℕ)). matcher (handed t (flatten (take 1 (drop (a .count + 1 - 1) x))))) (h .3)
-    ∙ ap (λ (l : List ℕ). matcher (handed t l)) (line-after (h .0) (h .1) (h .2) (a .count) (h .4))
-    ∙ ap matcher (sym (h .5))
+    let same = run-settings c input (answersOf matcher c input) a r in
+    let i = inv-run c input (answersOf matcher c input) a r in
+    let j = subst (λ x. Inv input (answersOf matcher x input) (a .session) (a .window) (a .rest) (a .count) (a .rows)) (sym same) i in
+    ap (λ x. answersOf matcher x input (a .count + 1)) (sym same)
+    ∙ asked-inv matcher input (a .session) (a .window) (a .rest) (a .count) (a .rows) j e
 
 pub account : Account
 account c input answers a r =

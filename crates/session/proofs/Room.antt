@@ -61,6 +61,11 @@ same-count c input answers n p q t u = elim (decLt p q) [
 
 -- # Refused for room
 
+-- the next line is longer than what is held of it, where more of the text comes
+pub longer-line : (t : ℕ) (u v : List ℕ) → length u ≤ firstPlace t u → 0 < length v → length u < length (take (firstLength t (u ++ v)) (u ++ v))
+longer-line t u v h some =
+    omega (arith, first-append-none t u v h, length-take (firstLength t (u ++ v)) (u ++ v), length-append u v)
+
 -- a line longer than what is held, after what is kept, exceeds the window
 over : (s : Session) (w : List ℕ) → s .window ≤ heldBytes s w → (n kept len : ℕ) → n ≡ s .window → kept ≡ keptBytes s w → s .end - s .next < len
     → n < kept + len
@@ -70,7 +75,7 @@ over s w h n kept len e k l = omega arith
 module _ (input : List ℕ) (answers : ℕ → Bool) (s : Session) (w rest : List ℕ) (count : ℕ) (given : List Row)
     (i : Inv input answers s w rest count given) where
   -- while no line waits and the input is open the bytes held hold no terminator
-  no-terminator : waits s w ≡ false → s .going ≡ On → length (unanswered s w) ≤ firstPlace (s .settings .terminator) (unanswered s w)
+  pub no-terminator : waits s w ≡ false → s .going ≡ On → length (unanswered s w) ≤ firstPlace (s .settings .terminator) (unanswered s w)
   unfolding waits lineBytes
   no-terminator v g =
       let u = unanswered s w in
@@ -90,9 +95,8 @@ module _ (input : List ℕ) (answers : ℕ → Bool) (s : Session) (w rest : Lis
       let idle = not-idle s (take k rest) (f .0 .1) in
       let some = more-text input answers s w rest count given i k (idle .0) (f .0 .2) .1 in
       let joined = length-append u v in
-      let first = first-append-none t u v (no-terminator (f .2) (idle .2)) in
+      let longer = longer-line t u v (no-terminator (f .2) (idle .2)) some in
       let n = firstLength t (u ++ v) in
-      let long : length (take n (u ++ v)) ≡ n = length-take n (u ++ v) ∙ omega arith in
       let size = unanswered-length s w (i .agree) (i .window-is) in
       let kept = kept-before input answers s w rest count given i in (
         record {
@@ -103,7 +107,7 @@ module _ (input : List ℕ) (answers : ℕ → Bool) (s : Session) (w rest : Lis
           count-is = sym (i .count-is);
           reached = same-lines c answers (i .gone) .1 ∙ sym (going-is input answers s w rest count given i) ∙ idle .2;
           fitted = subst (λ m. Fitted c answers m (i .gone)) (sym (i .window-is)) (i .fitted);
-          exceeds = over s w (f .3) (length w) (keptBefore c answers (i .gone)) (length (take n (u ++ v))) (i .window-is) kept (omega (arith, first, long, joined, size, some));
+          exceeds = over s w (f .3) (length w) (keptBefore c answers (i .gone)) (length (take n (u ++ v))) (i .window-is) kept (omega (arith, longer, size));
         },
         i .rows-are ∙ sym (same-lines c answers (i .gone) .0),
       )

@@ -20,12 +20,14 @@ use Rattle.definition.proofs.Lists.{lastOf-lastOf}
 use Rattle.definition.proofs.Terminator.{first-append, first-append-none, first-le, lines-drop, Whole, whole-drop}
 use Rattle.definition.proofs.Uncut.{Uncut, length-replaced, text-append, uncut-append, upTo-drop, upTo-take}
 use Rattle.session.specs.declared.Input.the-variants.{Open, QuitFound}
+use Rattle.session.specs.declared.Offering.{Offering}
+use Rattle.session.specs.declared.Offering.the-variants.{OfferRefused, Idle, Take}
 use Rattle.session.specs.declared.Session.{Session}
-use Rattle.session.specs.Calls.{beforeQuit, firstOf, quitPlace, replacedIn, stored, storedWindow}
+use Rattle.session.specs.Calls.{beforeQuit, firstOf, offerAnswer, offered, offering, quitPlace, replacedIn, stored, storedWindow}
 use Rattle.session.specs.Held.{backFrom, keptFrom, shown, sinceLines, unanswered}
 use Rattle.session.specs.Sound.{Agree}
 use Rattle.session.proofs.Invariant.{Inv, InputNow, taken-is, unanswered-length}
-use Rattle.session.proofs.Keeps.{Room, agree-stored}
+use Rattle.session.proofs.Keeps.{Room, TakenIf, agree-stored, offer-taken}
 use Rattle.session.proofs.Parts.{backFrom-last, kept-part, part-length, part-split}
 
 -- # Bytes before a Quit byte
@@ -34,6 +36,16 @@ pub quit-le : (k : Binary) (piece : List ℕ) → quitPlace k piece ≤ length p
 quit-le Ignore piece = omega arith
 quit-le (Quit b) piece = first-le b piece
 quit-le (Convert b) piece = omega arith
+
+-- no more is taken than was offered
+pub taken-le : (s : Session) (w piece : List ℕ) → offered s w piece .taken ≤ length piece
+unfolding offered beforeQuit
+taken-le s w piece = go (offering s w piece) (offer-taken s w piece)
+  where
+    go : (o : Offering) → TakenIf s w piece o → offerAnswer o s w piece .taken ≤ length piece
+    go (OfferRefused k) t = omega arith
+    go Idle t = omega arith
+    go (Take n quit) t = omega (arith, quit-le (s .settings .binary) piece, t .room .quit)
 
 under-uncut : (k : Binary) (t n : ℕ) (piece : List ℕ) → n ≤ quitPlace k piece → length (textUnder k t (take n piece)) ≡ length (take n piece)
 under-uncut Ignore t n piece h = refl

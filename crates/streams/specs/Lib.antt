@@ -1,3 +1,3 @@
--- What a read gives, and what output does to its buffer.
-pub mod Input
+-- What a call of read or write did, and what output does to its buffer.
+pub mod Moves
 pub mod Output

@@ -1,5 +1,5 @@
-// The programs' standard input and output. A read tells a failure from the end. Output is collected in a lent buffer and
-// written in large pieces; the program flushes before each read, so that nothing waits behind a slow input.
+// The programs' standard input and output. What a call of read or write did is a function of the count that it gave. Output
+// is collected in a lent buffer, which the program writes before it waits for more input.
 use definition::Binary;
 use libc::EINTR;
 use libc::STDIN_FILENO;
@@ -9,20 +9,28 @@ ghost use Prim.Native.Nat.{_+_, _≤_, _<_, min};
 ghost use lib.Dec.{leb};
 ghost use lib.ListN.{length};
 ghost use Rattle.definition.specs.Text.{putAt};
-ghost use Rattle.streams.specs.Output.{Collected, Numbered, added, failedRead, glyphOf, hexText, none};
-ghost use Rattle.streams.specs.Input.{Within};
+ghost use Rattle.streams.specs.Moves.{Within, leftOf, movedOf, unmovedBy};
+ghost use Rattle.streams.specs.Output.{added, collected, collectedIn, decimal, failedRead, glyphOf, hexText, none};
 
-// What a read gave: so many bytes, the end, or a failure with its errno.
-pub enum Got {
+// What a call of read or write did: it moved so many bytes, or none; or a signal came first, or it failed, with this errno.
+pub enum Moved {
     Bytes(usize),
-    Ended,
+    Nothing,
+    Interrupted,
     Failed(i32),
 }
 
-// What is collected: so many bytes at the buffer's front, and whether a write has failed.
+// What is left of a text after a write: nothing, its last so many bytes, or what cannot be written.
+pub enum Left {
+    Done,
+    More(usize),
+    Stuck,
+}
+
+// What is collected: so many bytes at the buffer's front, and whether some text had no room there.
 pub struct Pending {
     pub length: usize,
-    pub failed: bool,
+    pub lost: bool,
 }
 
 pub fn nothing_pending() -> Pending
@@ -30,71 +38,43 @@ pub fn nothing_pending() -> Pending
 {
     Pending {
         length: 0,
-        failed: false,
+        lost: false,
     }
 }
 
-// Reads once from standard input; again where a signal came first. Into an empty buffer the end is told.
-pub fn read(buffer: &mut [u8]) -> Got
+// Reads once from standard input. Nothing moves at the end of the input, or into an empty buffer.
+pub fn read(buffer: &mut [u8]) -> Moved
     ensures { λ r. ⌜ Within r (now (buffer .exit)) ⌝ }
 {
-    let mut turns = u64::MAX;
-    while 0 < turns {
-        turns -= 1;
-        let got = read_once(buffer);
-        if !is_interrupted(got) {
-            return got;
-        }
-    }
-    Got::Failed(EINTR)
+    let count = libc::read(STDIN_FILENO, buffer);
+    moved_by(count, os::errno(), buffer.len())
 }
 
-fn read_once(buffer: &mut [u8]) -> Got
-    ensures { λ r. ⌜ Within r (now (buffer .exit)) ⌝ }
+// What a call did that was lent so many bytes, by the count that it gave and the errno after it.
+fn moved_by(count: isize, error: i32, most: usize) -> Moved
+    ensures { λ r. ⌜ r ≡ movedOf count error most ⌝ }
 {
-    let got = libc::read(STDIN_FILENO, buffer);
-    if got < 0 {
-        return Got::Failed(os::errno());
+    if count < 0 {
+        return unmoved(error);
     }
-    let n = io::count(got, buffer);
-    if n == 0 {
-        return Got::Ended;
+    if count == 0 {
+        return Moved::Nothing;
     }
-    Got::Bytes(n)
+    Moved::Bytes(least(count as usize, most))
 }
 
-fn is_interrupted(got: Got) -> bool {
-    match got {
-        Got::Bytes(_) => false,
-        Got::Ended => false,
-        Got::Failed(reason) => reason == EINTR,
-    }
-}
-
-// Writes what is collected. Nothing more is written once a write has failed, so that the output has no hole.
-pub fn flush(out: &[u8], pending: Pending) -> Pending
-    ensures { λ r. ⌜ r .length ≡ 0 ⌝ }
+fn unmoved(error: i32) -> Moved
+    ensures { λ r. ⌜ r ≡ unmovedBy error ⌝ }
 {
-    let length = least(pending.length, out.len());
-    Pending {
-        length: 0,
-        failed: fails_to_write(pending.failed, &out[..length]),
+    if error == EINTR {
+        return Moved::Interrupted;
     }
+    Moved::Failed(error)
 }
 
-fn fails_to_write(failed: bool, text: &[u8]) -> bool {
-    if failed {
-        return true;
-    }
-    if write_all(text) {
-        return false;
-    }
-    tell_reason(b"failed write, errno ", error_number(os::errno()));
-    true
-}
-
-// Writes all of a text to standard output, going on after a signal; whether it could.
-fn write_all(text: &[u8]) -> bool {
+// Writes a text to standard output, going on after a signal and where only a part was written; whether all of it is written.
+// Turns are a bound for the proof: nothing lasts so long.
+pub fn write(text: &[u8]) -> bool {
     let mut from = 0;
     let mut turns = u64::MAX;
     while 0 < turns {
@@ -102,41 +82,47 @@ fn write_all(text: &[u8]) -> bool {
             return true;
         }
         turns -= 1;
-        let n = write_once(&text[from..]);
-        if is_stuck(n) {
-            return false;
+        let size = text.len() - from;
+        let count = libc::write(STDOUT_FILENO, &text[from..]);
+        match left_of(moved_by(count, os::errno(), size), size) {
+            Left::Done => return true,
+            Left::More(n) => from = text.len() - n,
+            Left::Stuck => {
+                tell_reason(b"failed write, errno ", error_number(os::errno()));
+                return false;
+            }
         }
-        from += n;
     }
     false
 }
 
-// Whether a write that took so many bytes failed for good.
-fn is_stuck(n: usize) -> bool {
-    if n == 0 { os::errno() != EINTR } else { false }
-}
-
-// How many bytes of a text one write took; 0 where it failed.
-fn write_once(text: &[u8]) -> usize
-    ensures { λ r. ⌜ r ≤ length (now (text .entry)) ⌝ }
+// What is left of a text of so many bytes, by what a write of it did.
+fn left_of(wrote: Moved, size: usize) -> Left
+    ensures { λ r. ⌜ r ≡ leftOf wrote size ⌝ }
 {
-    io::count(libc::write(STDOUT_FILENO, text), text)
+    match wrote {
+        Moved::Bytes(n) => if n < size {
+            Left::More(size - n)
+        } else {
+            Left::Done
+        },
+        Moved::Nothing => Left::Stuck,
+        Moved::Interrupted => Left::More(size),
+        Moved::Failed(_) => Left::Stuck,
+    }
 }
 
-// Collects a text behind what is pending. Where it has no room, what is pending is written first.
+// Collects a text behind what is pending; where it has no room it is lost, and that is told.
 pub fn put(out: &mut [u8], pending: Pending, text: &[u8]) -> Pending
-    ensures { λ r. ⌜ Collected pending (now (text .entry)) (now (out .entry)) r (now (out .exit)) ⌝ }
+    ensures { λ r. ⌜ r ≡ collected pending (now (text .entry)) (now (out .entry)) ⌝ }
+    ensures { λ _. ⌜ now (out .exit) ≡ collectedIn pending (now (text .entry)) (now (out .entry)) ⌝ }
 {
     if has_room(out, pending.length, text.len()) {
         return stored(out, pending, text);
     }
-    let emptied = flush(out, pending);
-    if has_room(out, 0, text.len()) {
-        return stored(out, emptied, text);
-    }
     Pending {
-        length: 0,
-        failed: fails_to_write(emptied.failed, text),
+        length: pending.length,
+        lost: true,
     }
 }
 
@@ -158,13 +144,14 @@ fn stored(out: &mut [u8], pending: Pending, text: &[u8]) -> Pending
     line_buffer::take_in(out, at, text, Binary::Ignore, 0);
     Pending {
         length: at + text.len(),
-        failed: pending.failed,
+        lost: pending.lost,
     }
 }
 
 // Says that a read failed: the reason on standard error, and a line in the output.
 pub fn tell_failed_read(out: &mut [u8], pending: Pending, reason: i32) -> Pending
-    ensures { λ r. ⌜ Collected pending failedRead (now (out .entry)) r (now (out .exit)) ⌝ }
+    ensures { λ r. ⌜ r ≡ collected pending failedRead (now (out .entry)) ⌝ }
+    ensures { λ _. ⌜ now (out .exit) ≡ collectedIn pending failedRead (now (out .entry)) ⌝ }
 {
     tell_reason(b"failed read, errno ", error_number(reason));
     put(out, pending, b"failed read\n")
@@ -189,7 +176,8 @@ fn error_number(reason: i32) -> u64 {
 
 // Collects a number in decimal.
 pub fn put_number(out: &mut [u8], pending: Pending, n: u64) -> Pending
-    ensures { λ r. ⌜ Numbered pending n (now (out .entry)) r (now (out .exit)) ⌝ }
+    ensures { λ r. ⌜ r ≡ collected pending (decimal n) (now (out .entry)) ⌝ }
+    ensures { λ _. ⌜ now (out .exit) ≡ collectedIn pending (decimal n) (now (out .entry)) ⌝ }
 {
     let mut digits = [0u8; 20];
     let count = io::decimal(n, &mut digits);
@@ -198,10 +186,17 @@ pub fn put_number(out: &mut [u8], pending: Pending, n: u64) -> Pending
 
 // Collects bytes as two lower-case hexadecimal digits each, or `-` where there are none.
 pub fn put_hex(out: &mut [u8], pending: Pending, bytes: &[u8]) -> Pending
-    ensures { λ r. ⌜ Collected pending (hexText (now (bytes .entry))) (now (out .entry)) r (now (out .exit)) ⌝ }
+    ensures { λ r. ⌜ r ≡ collected pending (hexText (now (bytes .entry))) (now (out .entry)) ⌝ }
+    ensures { λ _. ⌜ now (out .exit) ≡ collectedIn pending (hexText (now (bytes .entry))) (now (out .entry)) ⌝ }
 {
     if bytes.len() == 0 {
         return put(out, pending, b"-");
+    }
+    if !has_room_for_hex(out, pending.length, bytes) {
+        return Pending {
+            length: pending.length,
+            lost: true,
+        };
     }
     let mut p = pending;
     let mut i = 0;
@@ -211,6 +206,17 @@ pub fn put_hex(out: &mut [u8], pending: Pending, bytes: &[u8]) -> Pending
         i += 1;
     }
     p
+}
+
+// Whether two digits for each of some bytes have room behind a place.
+fn has_room_for_hex(out: &[u8], at: usize, bytes: &[u8]) -> bool
+    requires { ⌜ 0 < length (now bytes) ⌝ }
+    ensures { λ r. ⌜ r ≡ leb (at + length (hexText (now (bytes .entry)))) (length (now (out .entry))) ⌝ }
+{
+    if out.len() < at {
+        return false;
+    }
+    bytes.len() <= (out.len() - at) / 2
 }
 
 fn glyph(digit: u8) -> u8

@@ -1,7 +1,9 @@
-// 01's T through a window of 6 bytes, offered whole again and again: prints the rows of P2, one a line.
+// 01's T through a window of 6 bytes: prints the rows of P2, one a line. A program over the driver with a matcher and an output
+// of its own; all else is `driving`.
 use definition::Binary;
 use definition::Limit;
 use definition::Settings;
+use machine::Next;
 use searcher::Searcher;
 ghost use Prim.Native.Nat.{_<_};
 
@@ -20,36 +22,42 @@ fn main() {
     search(opened.searcher, b"a\nb\nc\nd\ne\n");
 }
 
-// Offers what is left of the text, and answers every line that waits; ten turns are more than enough.
+// Answers every line that waits, and offers what is left of the text; twenty turns are more than enough.
 fn search(searcher: Searcher, text: &[u8]) {
     let mut window = [0u8; 6];
+    let mut table = [0u64; 12];
     let mut s = searcher;
     let mut at = 0;
     let mut turns: usize = 0;
-    while turns < 10 {
-        let offered = s.offer(&mut window, &text[at..]);
-        let next = offered.searcher;
-        s = answer_all(next, &window);
-        at += offered.taken;
+    while turns < 20 {
         turns += 1;
+        let hit = is_wanted(s.line(&window));
+        let answered = s.answer(&window, &mut table, hit);
+        if answered.refusal == 0 {
+            s = answered.searcher;
+            print_rows(&table, answered.rows);
+        } else {
+            let fed = driving::feed(s, answered.refusal, &mut window, &text[at..]);
+            s = fed.searcher;
+            at += fed.taken;
+            let next = fed.next;
+            if !goes_on(next) {
+                return;
+            }
+        }
+    }
+}
+
+fn goes_on(next: Next) -> bool {
+    match next {
+        Next::Goes => true,
+        Next::Wants => false,
+        Next::Refuses(_) => false,
+        Next::Ends(_) => false,
     }
 }
 
 // The answer is yes at b and e.
-fn answer_all(searcher: Searcher, window: &[u8]) -> Searcher {
-    let mut table = [0u64; 12];
-    let mut s = searcher;
-    let mut k = 0;
-    while k < window.len() {
-        let hit = is_wanted(s.line(window));
-        let answered = s.answer(window, &mut table, hit);
-        print_rows(&table, answered.rows);
-        s = answered.searcher;
-        k += 1;
-    }
-    s
-}
-
 fn is_wanted(line: &[u8]) -> bool {
     if line.len() == 1 {
         (line[0] == b'b') | (line[0] == b'e')

@@ -9,7 +9,7 @@ use Rattle.session.specs.Calls.{idle}
 use Rattle.session.specs.Sound.{sound}
 use Rattle.session.proofs.Cases.{idling, unsound}
 use Rattle.session.proofs.Keeps.{sound-agrees, sound-window}
-use Rattle.held.proofs.Laws.{before-allowed}
+use Rattle.session.proofs.Agree.{before-allowed}
 use Rattle.offering.specs.Plan.{idleAt}
 use Rattle.offering.proofs.Laws.{planned-is}
 use borrow.Author.Needs.{needs}

@@ -1,16 +1,12 @@
 -- The first line not acted on starts in the input or at its end; the lent parts keep their lengths.
-use native.Mathlib.Omega.{arith}
-use borrow.Author.Needs.{needs}
+use Prim.Native.Nat.{_+_, _-_, _≤_, _<_}
 use mathlib.Core.Path.{_≡_, refl, sym, _∙_}
-use Prim.Native.Nat.{_-_, _≤_}
+use native.Mathlib.Omega.{arith}
 use lib.ListN.{length, take, drop, length-drop, length-take}
+use borrow.Author.Needs.{needs}
 use Rattle.lines.proofs.Laws.{found-at}
 use Rattle.replaying.proofs.act_on_lines.Statement.{statement}
 use Rattle.replaying.proofs.act_on_lines.Tie as tie
-use Rattle.replaying.proofs.act_on_lines.Reads as reads
-use Rattle.replaying.proofs.act_on_lines.Lts as lts
-use Rattle.lines.proofs.find.Reads as find-reads
-use Rattle.replaying.proofs.command.act.Reads as act-reads
 
 abbrev Inv-loop : tie.InvT-loop
 Inv-loop room₀ table₀ bytes₀ input out₀ now₀ from₀ room table bytes out now from =
@@ -23,172 +19,110 @@ Inv-loop room₀ table₀ bytes₀ input out₀ now₀ from₀ room table bytes 
 abbrev μ-loop : tie.MeasureT-loop
 μ-loop room₀ table₀ bytes₀ input out₀ now₀ from₀ room table bytes out now from = length input - from
 
--- src/lib.rt:131:5
+-- the newline that was found lies in the input
+inside : (c : tie.After-known-told Inv-loop μ-loop)
+    → c .before .before .before .before .before .before .before .before .before .loop .from + c .before .length .given .0 .0 < length (c .before .before .before .before .before .before .before .before .before .before .before .before .before .before .before .args .input .now)
+inside c =
+    let l = c .before .before .before .before .before .before .before .before .before in
+    let from = l .loop .from in
+    let input = l .before .before .before .before .before .before .args .input .now in
+    let rest = length input - from in
+    let at = found-at 10 (c .before .length .given .0 .0) (take rest (drop from input)) (sym (c .before .length .given .1) ∙ c .before .before .before .find .ensures) in
+    omega (arith, at, length-take rest (drop from input), length-drop from input)
+
 loop-holds : tie.Need-loop-holds Inv-loop μ-loop
 loop-holds c = (omega arith, refl, refl, refl, refl)
 
--- src/lib.rt:133:13
+with-room-requires : tie.Need-with-room-requires Inv-loop μ-loop
+with-room-requires c κs = tt
+
 same-length : tie.Need-same-length Inv-loop μ-loop
-same-length c = c .before .before .loop .inv .1
+same-length c = c .before .before .before .before .loop .inv .1
 
--- src/lib.rt:133:13
 same-length-2 : tie.Need-same-length-2 Inv-loop μ-loop
-same-length-2 c = c .before .before .loop .inv .2
+same-length-2 c = c .before .before .before .before .loop .inv .2
 
--- src/lib.rt:133:13
 same-length-3 : tie.Need-same-length-3 Inv-loop μ-loop
-same-length-3 c = c .before .before .loop .inv .3
+same-length-3 c = c .before .before .before .before .loop .inv .3
 
--- src/lib.rt:133:13
 same-length-4 : tie.Need-same-length-4 Inv-loop μ-loop
-same-length-4 c = c .before .before .loop .inv .4
+same-length-4 c = c .before .before .before .before .loop .inv .4
 
--- src/lib.rt:133:13
 returns : tie.Need-returns Inv-loop μ-loop
 returns c = omega arith
 
--- src/lib.rt:138:27
 sub-find : tie.Need-sub-find Inv-loop μ-loop
 sub-find c = omega arith
 
--- src/lib.rt:138:27
 part-find-start : tie.Need-part-find-start Inv-loop μ-loop
 part-find-start c = search needs
 
--- src/lib.rt:138:27
 part-find-end : tie.Need-part-find-end Inv-loop μ-loop
 part-find-end c = search needs
 
--- src/lib.rt:138:15
 find-requires : tie.Need-find-requires Inv-loop μ-loop
 find-requires c κs = tt
 
--- src/lib.rt:139:23
 enum-known-length : tie.Need-enum-known-length Inv-loop μ-loop
 enum-known-length c = search needs
 
--- src/lib.rt:140:27
 add-end : tie.Need-add-end Inv-loop μ-loop
-add-end c =
-    let l = c .before .before .before .before .before .before .before in
-    let input = l .before .before .before .before .before .before .args .input .now in
-    let rest = length input - l .loop .from in
-    let at = found-at 10 (c .before .length .given .0 .0) (take rest (drop (l .loop .from) input)) (sym (c .before .length .given .1) ∙ c .before .before .before .find .ensures) in
-    let size = length-take rest (drop (l .loop .from) input) in
-    let part = length-drop (l .loop .from) input in
-    omega (arith, at, size, part, l .before .before .before .before .before .before .good)
+add-end c = omega (arith, inside c, c .before .before .before .before .before .before .before .before .before .before .before .before .before .before .before .good)
 
--- src/lib.rt:141:41
 sub-act : tie.Need-sub-act Inv-loop μ-loop
-sub-act c =
-    let l = c .before .before .before .before .before .before .before in
-    let input = l .before .before .before .before .before .before .args .input .now in
-    let rest = length input - l .loop .from in
-    let at = found-at 10 (c .before .length .given .0 .0) (take rest (drop (l .loop .from) input)) (sym (c .before .length .given .1) ∙ c .before .before .before .find .ensures) in
-    let size = length-take rest (drop (l .loop .from) input) in
-    let part = length-drop (l .loop .from) input in
-    omega arith
+sub-act c = omega arith
 
--- src/lib.rt:141:41
 part-act-start : tie.Need-part-act-start Inv-loop μ-loop
-part-act-start c =
-    let l = c .before .before .before .before .before .before .before in
-    let input = l .before .before .before .before .before .before .args .input .now in
-    let rest = length input - l .loop .from in
-    let at = found-at 10 (c .before .length .given .0 .0) (take rest (drop (l .loop .from) input)) (sym (c .before .length .given .1) ∙ c .before .before .before .find .ensures) in
-    let size = length-take rest (drop (l .loop .from) input) in
-    let part = length-drop (l .loop .from) input in
-    omega (arith, at, size, part)
+part-act-start c = omega (arith, inside c)
 
--- src/lib.rt:141:41
 part-act-end : tie.Need-part-act-end Inv-loop μ-loop
-part-act-end c =
-    let l = c .before .before .before .before .before .before .before in
-    let input = l .before .before .before .before .before .before .args .input .now in
-    let rest = length input - l .loop .from in
-    let at = found-at 10 (c .before .length .given .0 .0) (take rest (drop (l .loop .from) input)) (sym (c .before .length .given .1) ∙ c .before .before .before .find .ensures) in
-    let size = length-take rest (drop (l .loop .from) input) in
-    let part = length-drop (l .loop .from) input in
-    omega (arith, at, size, part)
+part-act-end c = omega (arith, inside c)
 
--- src/lib.rt:141:17
 act-requires : tie.Need-act-requires Inv-loop μ-loop
 act-requires c κs = tt
 
--- src/lib.rt:142:24
 add-from : tie.Need-add-from Inv-loop μ-loop
-add-from c =
-    let l = c .before .before .before .before .before .before .before .before .before .before .before .before .before .before .before .before .before .before .before .before .before in
-    let input = l .before .before .before .before .before .before .args .input .now in
-    let rest = length input - l .loop .from in
-    let at = found-at 10 (c .before .before .before .before .before .before .before .before .before .before .before .before .before .before .before .length .given .0 .0) (take rest (drop (l .loop .from) input)) (sym (c .before .before .before .before .before .before .before .before .before .before .before .before .before .before .before .length .given .1) ∙ c .before .before .before .before .before .before .before .before .before .before .before .before .before .before .before .before .before .find .ensures) in
-    let size = length-take rest (drop (l .loop .from) input) in
-    let part = length-drop (l .loop .from) input in
-    omega (arith, at, size, part, l .before .before .before .before .before .before .good)
+add-from c = omega (arith, inside (c .before .before .before .before .before .before .before .before .before .before .before .before .before .before), c .before .before .before .before .before .before .before .before .before .before .before .before .before .before .before .before .before .before .before .before .before .before .before .before .before .before .before .before .before .good)
 
--- src/lib.rt:131:5
 loop-less : tie.Need-loop-less Inv-loop μ-loop
-loop-less c =
-    let l = c .before .before .before .before .before .before .before .before .before .before .before .before .before .before .before .before .before .before .before .before .before in
-    let input = l .before .before .before .before .before .before .args .input .now in
-    let rest = length input - l .loop .from in
-    let at = found-at 10 (c .before .before .before .before .before .before .before .before .before .before .before .before .before .before .before .length .given .0 .0) (take rest (drop (l .loop .from) input)) (sym (c .before .before .before .before .before .before .before .before .before .before .before .before .before .before .before .length .given .1) ∙ c .before .before .before .before .before .before .before .before .before .before .before .before .before .before .before .before .before .find .ensures) in
-    let size = length-take rest (drop (l .loop .from) input) in
-    let part = length-drop (l .loop .from) input in
-    omega (arith, at, size, part)
+loop-less c = omega (arith, inside (c .before .before .before .before .before .before .before .before .before .before .before .before .before .before))
 
--- src/lib.rt:131:5
 loop-again : tie.Need-loop-again Inv-loop μ-loop
 loop-again c =
-    let l = c .before .before .before .before .before .before .before .before .before .before .before .before .before .before .before .before .before .before .before .before .before in
-    let input = l .before .before .before .before .before .before .args .input .now in
-    let rest = length input - l .loop .from in
-    let at = found-at 10 (c .before .before .before .before .before .before .before .before .before .before .before .before .before .before .before .length .given .0 .0) (take rest (drop (l .loop .from) input)) (sym (c .before .before .before .before .before .before .before .before .before .before .before .before .before .before .before .length .given .1) ∙ c .before .before .before .before .before .before .before .before .before .before .before .before .before .before .before .before .before .find .ensures) in
-    let size = length-take rest (drop (l .loop .from) input) in
-    let part = length-drop (l .loop .from) input in
-    (omega (arith, at, size, part), c .before .before .before .before .before .before .before .before .act .kept .1 .1 .0 ∙ l .loop .inv .1, c .before .before .before .before .before .before .before .before .act .kept .1 .1 .1 .0 ∙ l .loop .inv .2, c .before .before .before .before .before .before .before .before .act .kept .1 .1 .1 .1 .0 ∙ l .loop .inv .3, c .before .before .before .before .before .before .before .before .act .kept .1 .1 .1 .1 .1 .0 ∙ l .loop .inv .4)
+    let a = c .before .before .before .before .before .before .before .before .act in
+    let l = c .before .before .before .before .before .before .before .before .before .before .before .before .before .before .before .before .before .before .before .before .before .before .before .loop in
+    (omega (arith, inside (c .before .before .before .before .before .before .before .before .before .before .before .before .before .before)), a .kept .1 .1 .0 ∙ l .inv .1, a .kept .1 .1 .1 .0 ∙ l .inv .2, a .kept .1 .1 .1 .1 .0 ∙ l .inv .3, a .kept .1 .1 .1 .1 .1 .0 ∙ l .inv .4)
 
--- src/lib.rt:145:17
 enum-told : tie.Need-enum-told Inv-loop μ-loop
 enum-told c = search needs
 
--- src/lib.rt:145:17
 same-length-5 : tie.Need-same-length-5 Inv-loop μ-loop
-same-length-5 c = c .before .before .before .before .before .before .loop .inv .1
+same-length-5 c = c .before .before .before .before .before .before .before .before .loop .inv .1
 
--- src/lib.rt:145:17
 same-length-6 : tie.Need-same-length-6 Inv-loop μ-loop
-same-length-6 c = c .before .before .before .before .before .before .loop .inv .2
+same-length-6 c = c .before .before .before .before .before .before .before .before .loop .inv .2
 
--- src/lib.rt:145:17
 same-length-7 : tie.Need-same-length-7 Inv-loop μ-loop
-same-length-7 c = c .before .before .before .before .before .before .loop .inv .3
+same-length-7 c = c .before .before .before .before .before .before .before .before .loop .inv .3
 
--- src/lib.rt:145:17
 same-length-8 : tie.Need-same-length-8 Inv-loop μ-loop
-same-length-8 c = c .before .before .before .before .before .before .loop .inv .4
+same-length-8 c = c .before .before .before .before .before .before .before .before .loop .inv .4
 
--- src/lib.rt:145:17
 returns-2 : tie.Need-returns-2 Inv-loop μ-loop
 returns-2 c = omega arith
 
--- src/lib.rt:119:1
 same-length-9 : tie.Need-same-length-9 Inv-loop μ-loop
 same-length-9 c = c .before .loop .inv .1
 
--- src/lib.rt:119:1
 same-length-10 : tie.Need-same-length-10 Inv-loop μ-loop
 same-length-10 c = c .before .loop .inv .2
 
--- src/lib.rt:119:1
 same-length-11 : tie.Need-same-length-11 Inv-loop μ-loop
 same-length-11 c = c .before .loop .inv .3
 
--- src/lib.rt:119:1
 same-length-12 : tie.Need-same-length-12 Inv-loop μ-loop
 same-length-12 c = c .before .loop .inv .4
 
--- src/lib.rt:119:1
 returns-3 : tie.Need-returns-3 Inv-loop μ-loop
 returns-3 c = omega arith
 
@@ -199,6 +133,7 @@ act-on-lines-spec =
     Inv-loop
     μ-loop
     loop-holds
+    with-room-requires
     same-length
     same-length-2
     same-length-3

@@ -1,184 +1,165 @@
 -- What is read lies behind what is held, in the input.
-use mathlib.Core.List.{_++_}
+use Prim.Native.Nat.{ℕ, _+_, _-_, _≤_}
+use mathlib.Core.Path.{_≡_}
+use mathlib.Core.List.{List, _++_}
 use native.Mathlib.Omega.{arith}
-use Prim.Native.Nat.{_-_}
 use lib.ListN.{length, take, drop, length-drop, length-take}
-use Rattle.streams.proofs.Laws.{tail-back}
 use borrow.Author.Needs.{needs}
+use Rattle.streams.proofs.Laws.{tail-back}
 use Rattle.replaying.proofs.step.Statement.{statement}
 use Rattle.replaying.proofs.step.Tie as tie
-use Rattle.replaying.proofs.step.Reads as reads
-use Rattle.replaying.proofs.step.Lts as lts
-use Rattle.replaying.proofs.command.failed.Reads as failed-reads
-use Rattle.replaying.proofs.command.flushed.Reads as flushed-reads
-use Rattle.replaying.proofs.done.Reads as done-reads
-use Rattle.replaying.proofs.last.Reads as last-reads
-use Rattle.replaying.proofs.more.Reads as more-reads
-use Rattle.streams.proofs.read.Reads as read-reads
 
--- src/lib.rt:65:9
+abbrev held : tie.Start → ℕ
+held s = s .args .now .held
+
+abbrev input : tie.Start → List ℕ
+input s = s .args .input .now
+
+abbrev start : tie.After-read → tie.Start
+start c = c .before .before .before .before .before .before .before .before .before .before .before
+
+-- the input is as long as it was before its tail was lent
+back : (c : tie.After-read)
+    → length (take (held (start c)) (input (start c)) ++ (c .read .last .0 ++ drop (length (input (start c)) - held (start c)) (drop (held (start c)) (input (start c))))) ≡ length (input (start c))
+back c = tail-back (held (start c)) (c .read .last .0) (input (start c)) (omega (arith, c .before .before .if2 .left)) (c .read .kept .0)
+
+-- what was read ends in the input
+inside : (c : tie.After-n) → held (start (c .before .before .before .before)) + c .n .given .0 .0 ≤ length (input (start (c .before .before .before .before)))
+inside c =
+    let r = c .before .before .before .before in
+    let size = length (input (start r)) - held (start r) in
+    let tail = drop (held (start r)) (input (start r)) in
+    let got = rw (c .n .given .1) at (r .read .ensures) in
+    omega (arith, got, length-take size tail, length-drop (held (start r)) (input (start r)), r .read .kept .0, r .before .before .if2 .left)
+
 flushed-requires : tie.Need-flushed-requires
 flushed-requires c κs = search needs
 
--- src/lib.rt:68:9
 done-requires : tie.Need-done-requires
 done-requires c κs = search needs
 
--- src/lib.rt:68:9
 same-length : tie.Need-same-length
 same-length c = search needs
 
--- src/lib.rt:68:9
 returns : tie.Need-returns
 returns c = search needs
 
--- src/lib.rt:71:9
 done-requires-2 : tie.Need-done-requires-2
 done-requires-2 c κs = search needs
 
--- src/lib.rt:71:9
 same-length-2 : tie.Need-same-length-2
 same-length-2 c = search needs
 
--- src/lib.rt:71:9
 returns-2 : tie.Need-returns-2
 returns-2 c = search needs
 
--- src/lib.rt:73:25
 sub-read : tie.Need-sub-read
 sub-read c = search needs
 
--- src/lib.rt:73:25
 part-read-start : tie.Need-part-read-start
 part-read-start c = search needs
 
--- src/lib.rt:73:25
 part-read-end : tie.Need-part-read-end
 part-read-end c = search needs
 
--- src/lib.rt:73:11
 read-requires : tie.Need-read-requires
 read-requires c κs = search needs
 
--- src/lib.rt:74:20
 enum-known-n : tie.Need-enum-known-n
 enum-known-n c = search needs
 
--- src/lib.rt:74:65
 add-more : tie.Need-add-more
-add-more c =
-    let input = c .before .before .before .before .before .before .before .before .before .before .before .before .before .before .before .before .before .before .before .before .args .input .now in
-    let held = c .before .before .before .before .before .before .before .before .before .before .before .before .before .before .before .before .before .before .before .before .args .now .held in
-    let got = rw (c .before .before .before .before .before .n .given .1) at (c .before .before .before .before .before .before .before .before .before .read .ensures) in
-    let size = length-take (length input - held) (drop held input) in
-    let part = length-drop held input in
-    omega (arith, got, size, part, c .before .before .before .before .before .before .before .before .before .read .kept .0, c .before .before .before .before .before .before .before .before .before .before .before .if2 .left, c .before .before .before .before .before .before .before .before .before .before .before .before .before .before .before .before .before .before .before .before .good)
+add-more c = omega (arith, inside (c .before .before .before .before .before), c .before .before .before .before .before .before .before .before .before .before .before .before .before .before .before .before .before .before .before .before .good)
 
--- src/lib.rt:74:26
 more-requires : tie.Need-more-requires
-more-requires c κs =
-    let input = c .before .before .before .before .before .before .before .before .before .before .before .before .before .before .before .before .before .before .before .before .before .args .input .now in
-    let held = c .before .before .before .before .before .before .before .before .before .before .before .before .before .before .before .before .before .before .before .before .before .args .now .held in
-    let got = rw (c .before .before .before .before .before .before .n .given .1) at (c .before .before .before .before .before .before .before .before .before .before .read .ensures) in
-    let size = length-take (length input - held) (drop held input) in
-    let part = length-drop held input in
-    rw (tail-back (c .before .before .before .before .before .before .before .before .before .before .before .before .before .before .before .before .before .before .before .before .before .args .now .held) (c .before .before .before .before .before .before .before .before .before .before .read .last .0) (c .before .before .before .before .before .before .before .before .before .before .before .before .before .before .before .before .before .before .before .before .before .args .input .now) (omega (arith, c .before .before .before .before .before .before .before .before .before .before .before .before .if2 .left)) (c .before .before .before .before .before .before .before .before .before .before .read .kept .0)) (omega (arith, got, size, part, c .before .before .before .before .before .before .before .before .before .before .read .kept .0, c .before .before .before .before .before .before .before .before .before .before .before .before .if2 .left))
+more-requires c κs = rw (back (c .before .before .before .before .before .before .before .before .before .before)) (inside (c .before .before .before .before .before .before))
 
--- src/lib.rt:75:40
 enum-told : tie.Need-enum-told
 enum-told c = search needs
 
--- src/lib.rt:75:60
 slice-reshare-prefix-last : tie.Need-slice-reshare-prefix-last
 slice-reshare-prefix-last c = search needs
 
--- src/lib.rt:75:60
 slice-aggregate-last : tie.Need-slice-aggregate-last
 slice-aggregate-last c =
-    let input = c .before .before .before .before .before .before .before .before .before .before .before .before .before .before .before .before .before .before .before .args .input .now in
-    let held = c .before .before .before .before .before .before .before .before .before .before .before .before .before .before .before .before .before .before .before .args .now .held in
-    let rest = length input - held in
-    omega (arith, length-take held (take held input ++ (c .before .before .before .before .before .before .before .before .read .last .0 ++ drop rest (drop held input))), tail-back (c .before .before .before .before .before .before .before .before .before .before .before .before .before .before .before .before .before .before .before .args .now .held) (c .before .before .before .before .before .before .before .before .read .last .0) (c .before .before .before .before .before .before .before .before .before .before .before .before .before .before .before .before .before .before .before .args .input .now) (omega (arith, c .before .before .before .before .before .before .before .before .before .before .if2 .left)) (c .before .before .before .before .before .before .before .before .read .kept .0), c .before .before .before .before .before .before .before .before .before .before .if2 .left)
+    let r = c .before .before .before .before .before .before .before .before in
+    let tail = drop (length (input (start r)) - held (start r)) (drop (held (start r)) (input (start r))) in
+    omega (arith, length-take (held (start r)) (take (held (start r)) (input (start r)) ++ (r .read .last .0 ++ tail)), back r, r .before .before .if2 .left)
 
--- src/lib.rt:75:28
 last-requires : tie.Need-last-requires
 last-requires c κs = search needs
 
--- src/lib.rt:75:23
 done-requires-3 : tie.Need-done-requires-3
 done-requires-3 c κs = search needs
 
--- src/lib.rt:76:21
+enum-told-2 : tie.Need-enum-told-2
+enum-told-2 c = search needs
+
+to-read-on-requires : tie.Need-to-read-on-requires
+to-read-on-requires c κs = search needs
+
 enum-known-reason : tie.Need-enum-known-reason
 enum-known-reason c = search needs
 
--- src/lib.rt:76:37
 failed-requires : tie.Need-failed-requires
 failed-requires c κs = search needs
 
--- src/lib.rt:76:32
 done-requires-4 : tie.Need-done-requires-4
 done-requires-4 c κs = search needs
 
--- src/lib.rt:57:1
 same-length-3 : tie.Need-same-length-3
 same-length-3 c = search needs
 
--- src/lib.rt:57:1
 same-length-4 : tie.Need-same-length-4
 same-length-4 c = search needs
 
--- src/lib.rt:57:1
 same-length-5 : tie.Need-same-length-5
 same-length-5 c = search needs
 
--- src/lib.rt:57:1
 same-length-6 : tie.Need-same-length-6
 same-length-6 c = search needs
 
--- src/lib.rt:57:1
 same-length-7 : tie.Need-same-length-7
 same-length-7 c = search needs
 
--- src/lib.rt:57:1
 returns-3 : tie.Need-returns-3
 returns-3 c = search needs
 
--- src/lib.rt:57:1
 same-length-8 : tie.Need-same-length-8
 same-length-8 c = search needs
 
--- src/lib.rt:57:1
 same-length-9 : tie.Need-same-length-9
 same-length-9 c = search needs
 
--- src/lib.rt:57:1
 same-length-10 : tie.Need-same-length-10
 same-length-10 c = search needs
 
--- src/lib.rt:57:1
 same-length-11 : tie.Need-same-length-11
-same-length-11 c = tail-back (c .before .before .before .before .before .before .before .before .before .before .before .before .before .before .before .before .before .before .before .before .before .before .before .before .before .before .before .before .before .before .args .now .held) (c .before .before .before .before .before .before .before .before .before .before .before .before .before .before .before .before .before .before .before .read .last .0) (c .before .before .before .before .before .before .before .before .before .before .before .before .before .before .before .before .before .before .before .before .before .before .before .before .before .before .before .before .before .before .args .input .now) (omega (arith, c .before .before .before .before .before .before .before .before .before .before .before .before .before .before .before .before .before .before .before .before .before .if2 .left)) (c .before .before .before .before .before .before .before .before .before .before .before .before .before .before .before .before .before .before .before .read .kept .0)
+same-length-11 c = back (c .before .before .before .before .before .before .before .before .before .before .before .before .before .before .before .before .before .before .before)
 
--- src/lib.rt:57:1
 same-length-12 : tie.Need-same-length-12
 same-length-12 c = search needs
 
--- src/lib.rt:57:1
 returns-4 : tie.Need-returns-4
 returns-4 c = search needs
 
--- src/lib.rt:57:1
 same-length-13 : tie.Need-same-length-13
 same-length-13 c = search needs
 
--- src/lib.rt:57:1
 same-length-14 : tie.Need-same-length-14
 same-length-14 c = search needs
 
--- src/lib.rt:57:1
 returns-5 : tie.Need-returns-5
 returns-5 c = search needs
+
+same-length-15 : tie.Need-same-length-15
+same-length-15 c = search needs
+
+same-length-16 : tie.Need-same-length-16
+same-length-16 c = search needs
+
+returns-6 : tie.Need-returns-6
+returns-6 c = search needs
 
 pub step-spec : {M : Type 1} → statement M
 step-spec =
@@ -203,6 +184,8 @@ step-spec =
     slice-aggregate-last
     last-requires
     done-requires-3
+    enum-told-2
+    to-read-on-requires
     enum-known-reason
     failed-requires
     done-requires-4
@@ -220,4 +203,7 @@ step-spec =
     returns-4
     same-length-13
     same-length-14
-    returns-5)
+    returns-5
+    same-length-15
+    same-length-16
+    returns-6)

@@ -7,19 +7,15 @@ use Rattle.searcher_c.proofs.first.Tie as tie
 use Rattle.searcher_c.proofs.first.Reads as reads
 use Rattle.searcher_c.proofs.first.Lts as lts
 
--- src/lib.rt:196:9
 returns : tie.Need-returns
 returns c = search needs
 
--- src/lib.rt:199:9
 returns-2 : tie.Need-returns-2
 returns-2 c = search needs
 
--- src/lib.rt:201:5
 slice-aggregate-result : tie.Need-slice-aggregate-result
 slice-aggregate-result c = omega (arith, length-take (c .before .before .before .args .piece) (c .before .before .before .args .text .now))
 
--- src/lib.rt:192:1
 returns-3 : tie.Need-returns-3
 returns-3 c = omega (arith, length-take (c .before .before .before .args .piece) (c .before .before .before .args .text .now))
 

@@ -1,10 +1,9 @@
 -- The number is above 0, so the cast is defined.
-use mathlib.Core.Path.{_≡_, sym, subst}
-use mathlib.Core.Bool.{true}
+use mathlib.Core.Path.{sym, subst}
 use native.Mathlib.Nat.{lt-of-le-of-lt}
-use lib.IntN.{ℤ, pos, natAbs}
+use lib.IntN.{ℤ, natAbs}
 use lib.Dec.{lit<}
-use lib.Signed.{ltZ, natAbs-le}
+use lib.Signed.{natAbs-le}
 use mir.Syntax.{w32, w64}
 use mir.Val.{Fits, ofZ, toZ}
 use mir.ValLaws.{toZ-ofZ}
@@ -12,20 +11,15 @@ use Rattle.streams.proofs.Laws.{positive}
 use borrow.Author.Needs.{needs}
 use Rattle.streams.proofs.error_number.Statement.{statement}
 use Rattle.streams.proofs.error_number.Tie as tie
-use Rattle.streams.proofs.error_number.Reads as reads
-use Rattle.streams.proofs.error_number.Lts as lts
 
--- src/lib.rt:161:21
 cast-result : tie.Need-cast-result
 cast-result c =
     let a = c .before in
     (positive (toZ w32 (ofZ w32 (a .args .reason))) (c .if1 .taken), subst (λ (z : ℤ). Fits w64 (natAbs z)) (sym (toZ-ofZ w32 (a .args .reason) (a .fits .reason))) (record { fits = lt-of-le-of-lt (natAbs-le (a .args .reason) (a .fits .reason .sfits)) (lit< tt) }))
 
--- src/lib.rt:160:1
 returns : tie.Need-returns
 returns c = search needs
 
--- src/lib.rt:160:1
 returns-2 : tie.Need-returns-2
 returns-2 c = search needs
 

@@ -4,22 +4,16 @@ use borrow.Author.Tests.{le-ltb, lt-ltb}
 use borrow.Author.Needs.{needs}
 use Rattle.streams.proofs.glyph.Statement.{statement}
 use Rattle.streams.proofs.glyph.Tie as tie
-use Rattle.streams.proofs.glyph.Reads as reads
-use Rattle.streams.proofs.glyph.Lts as lts
 
--- src/lib.rt:195:9
 add-result : tie.Need-add-result
 add-result c = search needs
 
--- src/lib.rt:197:9
 add-result-2 : tie.Need-add-result-2
 add-result-2 c = search needs
 
--- src/lib.rt:190:1
 returns : tie.Need-returns
 returns c = rw (lt-ltb (c .before .args .digit) 10 (c .if1 .taken))
 
--- src/lib.rt:190:1
 returns-2 : tie.Need-returns-2
 returns-2 c = rw (le-ltb (c .before .args .digit) 10 (c .if1 .left)) (omega arith)
 

@@ -8,18 +8,13 @@ use Rattle.streams.proofs.Laws.{room-left}
 use borrow.Author.Needs.{needs}
 use Rattle.streams.proofs.has_room.Statement.{statement}
 use Rattle.streams.proofs.has_room.Tie as tie
-use Rattle.streams.proofs.has_room.Reads as reads
-use Rattle.streams.proofs.has_room.Lts as lts
 
--- src/lib.rt:121:9
 returns : tie.Need-returns
 returns c = sym (lt-leb (c .before .args .at + c .before .args .size) (length (c .before .args .out .now)) (omega arith))
 
--- src/lib.rt:123:13
 sub-result : tie.Need-sub-result
 sub-result c = search needs
 
--- src/lib.rt:117:1
 returns-2 : tie.Need-returns-2
 returns-2 c = room-left (c .before .args .at) (c .before .args .size) (length (c .before .args .out .now)) (c .if1 .left)
 

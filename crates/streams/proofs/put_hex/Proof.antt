@@ -1,116 +1,120 @@
--- The digits of the bytes passed are collected.
-use native.Mathlib.Omega.{arith}
-use borrow.Author.Needs.{needs}
+-- The digits of the bytes passed are collected: there is room for all, which was asked before the first.
+use Prim.Native.Nat.{_+_, _-_, _/_, _%_, _≤_, _<_}
 use mathlib.Core.Path.{_≡_, refl, sym, _∙_}
 use mathlib.Core.List.{[], _∷_}
-use Prim.Native.Nat.{_+_, _-_, _*_, _/_, _%_, _≤_}
+use native.Mathlib.Omega.{arith}
 use lib.ListN.{length, take, getD}
 use lib.Seq.{take-all}
+use borrow.Author.Needs.{needs}
+use borrow.Author.Tests.{leb-false, leb-true, not-false, not-true}
 use Rattle.definition.specs.Text.{putAt}
-use Rattle.streams.specs.Output.{added, glyphOf, hexed}
-use Rattle.streams.proofs.Laws.{collected-more, collected-none, hex-none, hex-some, hexed-next, length-hexed, length-taken}
-use native.Mathlib.Omega.{arith}
+use Rattle.streams.specs.Output.{added, glyphOf, hexText, hexed}
+use Rattle.streams.proofs.Laws.{collected-lost, collected-more, collected-none, collected-room, hex-none, hex-some, hexed-next, length-hexText, length-taken}
 use Rattle.streams.proofs.put_hex.Statement.{statement}
 use Rattle.streams.proofs.put_hex.Tie as tie
-use Rattle.streams.proofs.put_hex.Reads as reads
-use Rattle.streams.proofs.put_hex.Lts as lts
-use Rattle.streams.proofs.glyph.Reads as glyph-reads
-use Rattle.streams.proofs.put.Reads as put-reads
 
 abbrev Inv-loop : tie.InvT-loop
 Inv-loop out₀ bytes p₀ i₀ out p i =
     (i ≤ length bytes)
     × (length out ≡ length out₀)
-    × (p₀ .length + 2 * length bytes ≤ length out₀ → (p ≡ added p₀ (hexed (take i bytes))) × (out ≡ putAt (p₀ .length) (hexed (take i bytes)) out₀))
+    × ((p ≡ added p₀ (hexed (take i bytes))) × (out ≡ putAt (p₀ .length) (hexed (take i bytes)) out₀))
 
 abbrev μ-loop : tie.MeasureT-loop
 μ-loop out₀ bytes p₀ i₀ out p i = length bytes - i
 
--- src/lib.rt:204:34
 slice-aggregate-put : tie.Need-slice-aggregate-put Inv-loop μ-loop
 slice-aggregate-put c = search needs
 
--- src/lib.rt:204:9
 put-requires : tie.Need-put-requires Inv-loop μ-loop
 put-requires c κs = tt
 
--- src/lib.rt:204:9
 same-length : tie.Need-same-length Inv-loop μ-loop
 same-length c = search needs
 
--- src/lib.rt:204:9
 returns : tie.Need-returns Inv-loop μ-loop
 returns c =
-    let a = c .before .before .before .before .before .before .before .before .args in
-    rw (hex-none (a .bytes .now) (c .before .before .before .before .before .if1 .taken)) (c .before .before .put .ensures)
+    let t = c .before .before .before .before .before in
+    rw (hex-none (t .before .before .before .args .bytes .now) (t .if1 .taken)) (c .before .before .put .ensures)
 
--- src/lib.rt:208:5
+has-room-for-hex-requires : tie.Need-has-room-for-hex-requires Inv-loop μ-loop
+has-room-for-hex-requires c κs = omega arith
+
+same-length-2 : tie.Need-same-length-2 Inv-loop μ-loop
+same-length-2 c = search needs
+
+returns-2 : tie.Need-returns-2 Inv-loop μ-loop
+returns-2 c =
+    let a = c .before .before .before .before .before .before .args in
+    let full : length (a .out .now) < a .pending .length + length (hexText (a .bytes .now)) = leb-false _ _ (sym (c .before .has-room-for-hex .ensures) ∙ not-true _ (c .if2 .taken)) in
+    let lost = collected-lost (a .pending) (hexText (a .bytes .now)) (a .out .now) full in
+    (sym (lost .0), sym (lost .1))
+
 loop-holds : tie.Need-loop-holds Inv-loop μ-loop
 loop-holds c =
-    let a = c .before .before .before .args in
-    (omega arith, refl, λ h. collected-none (a .pending) (a .out .now) (a .bytes .now))
+    let a = c .before .before .before .before .before .before .args in
+    (omega arith, refl, collected-none (a .pending) (a .out .now) (a .bytes .now))
 
--- src/lib.rt:209:27
 shared-slice-read-glyph : tie.Need-shared-slice-read-glyph Inv-loop μ-loop
 shared-slice-read-glyph c = omega arith
 
--- src/lib.rt:209:21
 glyph-requires : tie.Need-glyph-requires Inv-loop μ-loop
 glyph-requires c κs = omega (arith, c .shared-slice-known2 .given (c .before .before .loop .i))
 
--- src/lib.rt:209:49
 shared-slice-read-glyph-2 : tie.Need-shared-slice-read-glyph-2 Inv-loop μ-loop
 shared-slice-read-glyph-2 c = omega arith
 
--- src/lib.rt:209:43
 glyph-requires-2 : tie.Need-glyph-requires-2 Inv-loop μ-loop
 glyph-requires-2 c κs = omega arith
 
--- src/lib.rt:210:25
 slice-aggregate-put-2 : tie.Need-slice-aggregate-put-2 Inv-loop μ-loop
 slice-aggregate-put-2 c = search needs
 
--- src/lib.rt:210:9
 put-requires-2 : tie.Need-put-requires-2 Inv-loop μ-loop
 put-requires-2 c κs = tt
 
--- src/lib.rt:211:9
 add-i : tie.Need-add-i Inv-loop μ-loop
 add-i c = omega arith
 
--- src/lib.rt:208:5
 loop-less : tie.Need-loop-less Inv-loop μ-loop
 loop-less c = omega arith
 
--- src/lib.rt:208:5
+-- all the digits have room
+room : (c : tie.Else2 Inv-loop μ-loop)
+    → c .before .before .before .before .before .before .args .pending .length + length (hexText (c .before .before .before .before .before .before .args .bytes .now)) ≤ length (c .before .before .before .before .before .before .args .out .now)
+room c = leb-true _ _ (sym (c .before .has-room-for-hex .ensures) ∙ not-false _ (c .if2 .left))
+
+-- there is a byte, so that no dash stands for none
+some : (c : tie.Else2 Inv-loop μ-loop) → 0 < length (c .before .before .before .before .before .before .args .bytes .now)
+some c = omega arith
+
 loop-again : tie.Need-loop-again Inv-loop μ-loop
 loop-again c =
-    let l = c .before .before .before .before .before .before .before .before .before .before in
-    let a = l .before .before .before .before .args in
+    let g = c .before .before .before .before .before in
+    let l = g .before .before .before .before .before in
+    let a = l .before .before .before .before .before .before .before .args in
     let i = l .loop .i in
     let bytes = a .bytes .now in
     let done = hexed (take i bytes) in
+    let pair = glyphOf (getD bytes i 0 / 16) ∷ (glyphOf (getD bytes i 0 % 16) ∷ []) in
+    let put = rw (g .before .before .glyph .ensures, g .glyph2 .ensures) at (c .before .before .put2 .ensures) in
     let size = length-taken i bytes (l .loop .inv .0) in
-    let put = rw (c .before .before .before .before .before .before .before .glyph .ensures, c .before .before .before .before .before .glyph2 .ensures) at (c .before .before .put2 .ensures) in (
-      omega arith,
-      c .before .before .put2 .kept .0 ∙ l .loop .inv .1,
-      λ h.
-          rw (sym (hexed-next i bytes (c .before .before .before .before .before .before .before .before .before .loop-test .taken)))
-          (collected-more (a .pending) (l .loop .p) (c .before .before .put2 .result) done (glyphOf (getD bytes i 0 / 16) ∷ (glyphOf (getD bytes i 0 % 16) ∷ [])) (a .out .now) (l .loop .out) (c .before .before .put2 .last .0) (l .loop .inv .2 h) (omega (arith, h, size, c .before .before .before .before .before .before .before .before .before .loop-test .taken)) put),
-    )
+    let all = length-hexText bytes (some (l .before)) in
+    let test : i < length bytes = g .before .before .before .before .loop-test .taken in
+    let fits : a .pending .length + length done + length pair ≤ length (a .out .now) = omega (arith, room (l .before)) in
+    let more = collected-more (a .pending) (l .loop .p) done pair (a .out .now) (l .loop .out) (l .loop .inv .2) fits in
+    (omega arith, c .before .before .put2 .kept .0 ∙ l .loop .inv .1, rw (sym (hexed-next i bytes test)) (put .0 ∙ more .0, put .1 ∙ more .1))
 
--- src/lib.rt:200:1
-same-length-2 : tie.Need-same-length-2 Inv-loop μ-loop
-same-length-2 c = c .before .loop .inv .1
+same-length-3 : tie.Need-same-length-3 Inv-loop μ-loop
+same-length-3 c = c .before .loop .inv .1
 
--- src/lib.rt:200:1
-returns-2 : tie.Need-returns-2 Inv-loop μ-loop
-returns-2 c =
+returns-3 : tie.Need-returns-3 Inv-loop μ-loop
+returns-3 c =
     let l = c .before in
-    let a = l .before .before .before .before .args in
+    let a = l .before .before .before .before .before .before .before .args in
     let bytes = a .bytes .now in
-    let all = take-all (l .loop .i) bytes (c .loop-test .left) in
-    rw (hex-some bytes (omega arith)) (λ h. rw all at (l .loop .inv .2 (omega (arith, h, length-hexed bytes))))
+    let whole = collected-room (a .pending) (hexText bytes) (a .out .now) (room (l .before)) in
+    let done = rw (take-all (l .loop .i) bytes (c .loop-test .left), sym (hex-some bytes (some (l .before)))) at (l .loop .inv .2) in
+    (done .0 ∙ sym (whole .0), done .1 ∙ sym (whole .1))
 
 pub put-hex-spec : {M : Type 1} → statement M
 put-hex-spec =
@@ -122,6 +126,9 @@ put-hex-spec =
     put-requires
     same-length
     returns
+    has-room-for-hex-requires
+    same-length-2
+    returns-2
     loop-holds
     shared-slice-read-glyph
     glyph-requires
@@ -132,5 +139,5 @@ put-hex-spec =
     add-i
     loop-less
     loop-again
-    same-length-2
-    returns-2)
+    same-length-3
+    returns-3)

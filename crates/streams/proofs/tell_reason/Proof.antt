@@ -6,56 +6,40 @@ use lib.ListN.{length, length-take}
 use borrow.Author.Needs.{needs}
 use Rattle.streams.proofs.tell_reason.Statement.{statement}
 use Rattle.streams.proofs.tell_reason.Tie as tie
-use Rattle.streams.proofs.tell_reason.Reads as reads
-use Rattle.streams.proofs.tell_reason.Lts as lts
-use Rattle.io.proofs.decimal.Reads as decimal-reads
-use Rattle.os.proofs.fail.Reads as fail-reads
-use Rattle.streams.proofs.nothing_pending.Reads as nothing-pending-reads
-use Rattle.streams.proofs.stored.Reads as stored-reads
 
--- src/lib.rt:179:9
 decimal-requires : tie.Need-decimal-requires
 decimal-requires c κs = search needs
 
--- src/lib.rt:180:24
 slice-aggregate-stored : tie.Need-slice-aggregate-stored
 slice-aggregate-stored c = search needs
 
--- src/lib.rt:180:35
 nothing-pending-requires : tie.Need-nothing-pending-requires
 nothing-pending-requires c κs = search needs
 
--- src/lib.rt:180:9
 stored-requires : tie.Need-stored-requires
 stored-requires c κs = rw (c .nothing-pending .ensures) (omega (arith, c .before .before .before .before .before .pre))
 
--- src/lib.rt:181:27
 slice-aggregate-stored-2 : tie.Need-slice-aggregate-stored-2
 slice-aggregate-stored-2 c = search needs
 
--- src/lib.rt:181:45
 array-share-prefix-digits : tie.Need-array-share-prefix-digits
 array-share-prefix-digits c = search needs
 
--- src/lib.rt:181:45
 slice-aggregate-stored-3 : tie.Need-slice-aggregate-stored-3
 slice-aggregate-stored-3 c = search needs
 
--- src/lib.rt:181:9
 stored-requires-2 : tie.Need-stored-requires-2
 stored-requires-2 c κs =
     let d = c .before .before .before .before .before .before .decimal in
     let few = few-digits (c .before .before .before .before .before .before .before .before .before .args .number) (d .result) (c .before .before .before .before .before .before .before .before .before .fits .number .fits) (d .ensures .1 .0) in
     rw (c .before .before .before .stored .ensures .0, c .before .before .before .before .nothing-pending .ensures) (omega (arith, few, d .ensures .0, c .before .before .before .stored .kept .0, c .before .before .before .before .before .before .before .before .before .pre))
 
--- src/lib.rt:183:14
 array-share-prefix-line : tie.Need-array-share-prefix-line
 array-share-prefix-line c =
     let d = c .before .before .before .before .before .before .before .before .decimal in
     let few = few-digits (c .before .before .before .before .before .before .before .before .before .before .before .args .number) (d .result) (c .before .before .before .before .before .before .before .before .before .before .before .fits .number .fits) (d .ensures .1 .0) in
     rw (c .before .stored2 .ensures .0, c .before .before .before .before .before .stored .ensures .0, c .before .before .before .before .before .before .nothing-pending .ensures) (omega (arith, few, d .ensures .0, c .before .before .before .before .before .stored .kept .0, c .before .stored2 .kept .0, c .before .before .before .before .before .before .before .before .before .before .before .pre))
 
--- src/lib.rt:183:14
 slice-aggregate-fail : tie.Need-slice-aggregate-fail
 slice-aggregate-fail c =
     let d = c .before .before .before .before .before .before .before .before .before .decimal in
@@ -64,11 +48,9 @@ slice-aggregate-fail c =
     let fits : c .before .before .stored2 .result .length ≤ length (c .before .before .stored2 .last .0) = rw (c .before .before .stored2 .ensures .0, c .before .before .before .before .before .before .stored .ensures .0, c .before .before .before .before .before .before .before .nothing-pending .ensures) (omega (arith, few, d .ensures .0, c .before .before .before .before .before .before .stored .kept .0, c .before .before .stored2 .kept .0, c .before .before .before .before .before .before .before .before .before .before .before .before .pre)) in
     omega (arith, size, fits)
 
--- src/lib.rt:183:5
 fail-requires : tie.Need-fail-requires
 fail-requires c κs = search needs
 
--- src/lib.rt:174:1
 returns : tie.Need-returns
 returns c = search needs
 

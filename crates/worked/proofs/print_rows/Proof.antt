@@ -13,31 +13,24 @@ Inv-loop table rows i₀ i = (i ≤ rows) × (rows ≤ 3)
 abbrev μ-loop : tie.MeasureT-loop
 μ-loop table rows i₀ i = rows - i
 
--- src/main.rt:63:9
 returns : tie.Need-returns Inv-loop μ-loop
 returns c = tt
 
--- src/main.rt:66:5
 loop-holds : tie.Need-loop-holds Inv-loop μ-loop
 loop-holds c = omega arith
 
--- src/main.rt:67:9
 print-row-requires : tie.Need-print-row-requires Inv-loop μ-loop
 print-row-requires c κs = omega arith
 
--- src/main.rt:68:9
 add-i : tie.Need-add-i Inv-loop μ-loop
 add-i c = omega arith
 
--- src/main.rt:66:5
 loop-less : tie.Need-loop-less Inv-loop μ-loop
 loop-less c = omega arith
 
--- src/main.rt:66:5
 loop-again : tie.Need-loop-again Inv-loop μ-loop
 loop-again c = omega arith
 
--- src/main.rt:61:1
 returns-2 : tie.Need-returns-2 Inv-loop μ-loop
 returns-2 c = tt
 

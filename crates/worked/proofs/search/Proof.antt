@@ -1,92 +1,105 @@
--- No more is taken than was offered, so the place stays in the text.
-use Prim.Native.Nat.{_+_, _-_, _≤_}
-use mathlib.Core.Path.{_≡_, _∙_, ap}
+-- Window and table keep their lengths, and the place reached lies in the text; each turn is one fewer of twenty.
 use native.Mathlib.Omega.{arith}
-use lib.ListN.{length, drop, length-drop, length-take, take}
-use Rattle.searcher.specs.Door.{doorOffered}
-use Rattle.searcher.proofs.Laws.{taken-le}
 use borrow.Author.Needs.{needs}
+use mathlib.Core.Path.{_≡_}
+use Prim.Native.Nat.{_-_, _≤_}
+use lib.ListN.{length, take, drop, length-drop, length-take}
+use Rattle.machine.proofs.Feeds.{fed-taken}
 use Rattle.worked.proofs.search.Statement.{statement}
 use Rattle.worked.proofs.search.Tie as tie
 use Rattle.worked.proofs.search.Reads as reads
 use Rattle.worked.proofs.search.Lts as lts
-use Rattle.searcher.proofs.Searcher.offer.Reads as offer-reads
-use Rattle.worked.proofs.answer_all.Reads as answer-all-reads
+use Rattle.driving.proofs.feed.Reads as feed-reads
+use Rattle.searcher.proofs.Searcher.answer.Reads as answer-reads
+use Rattle.searcher.proofs.Searcher.line.Reads as line-reads
+use Rattle.worked.proofs.goes_on.Reads as goes-on-reads
+use Rattle.worked.proofs.is_wanted.Reads as is-wanted-reads
+use Rattle.worked.proofs.print_rows.Reads as print-rows-reads
 
 abbrev Inv-loop : tie.InvT-loop
-Inv-loop text window₀ s₀ at₀ turns₀ window s at turns = (at ≤ length text) × (length window ≡ 6)
+Inv-loop text window₀ table₀ s₀ at₀ turns₀ window table s at turns =
+    (length window ≡ 6) × (length table ≡ 12) × (at ≤ length text)
 
 abbrev μ-loop : tie.MeasureT-loop
-μ-loop text window₀ s₀ at₀ turns₀ window s at turns = 10 - turns
+μ-loop text window₀ table₀ s₀ at₀ turns₀ window table s at turns = 20 - turns
 
--- src/main.rt:29:5
 loop-holds : tie.Need-loop-holds Inv-loop μ-loop
 loop-holds c = search needs
 
--- src/main.rt:30:31
-slice-aggregate-offer : tie.Need-slice-aggregate-offer Inv-loop μ-loop
-slice-aggregate-offer c = search needs
-
--- src/main.rt:30:44
-sub-offer : tie.Need-sub-offer Inv-loop μ-loop
-sub-offer c = search needs
-
--- src/main.rt:30:44
-part-offer-start : tie.Need-part-offer-start Inv-loop μ-loop
-part-offer-start c = search needs
-
--- src/main.rt:30:44
-part-offer-end : tie.Need-part-offer-end Inv-loop μ-loop
-part-offer-end c = search needs
-
--- src/main.rt:30:13
-offer-requires : tie.Need-offer-requires Inv-loop μ-loop
-offer-requires c κs = search needs
-
--- src/main.rt:32:30
-slice-aggregate-answer-all : tie.Need-slice-aggregate-answer-all Inv-loop μ-loop
-slice-aggregate-answer-all c = search needs
-
--- src/main.rt:32:9
-answer-all-requires : tie.Need-answer-all-requires Inv-loop μ-loop
-answer-all-requires c κs = search needs
-
-inside : (c : tie.After-struct-known Inv-loop μ-loop)
-    → c .before .before .before .before .before .before .before .before .before .loop .at + c .before .before .before .before .before .offer .result .taken ≤ length (c .before .before .before .before .before .before .before .before .before .before .before .args .text .now)
-unfolding doorOffered
-inside c =
-    let l = c .before .before .before .before .before .before .before .before .before in
-    let text = c .before .before .before .before .before .before .before .before .before .before .before .args .text .now in
-    let piece = take (length text - l .loop .at) (drop (l .loop .at) text) in
-    let taken = taken-le (l .loop .s .session) (l .loop .window) piece in
-    omega (
-      arith,
-      ap (λ o. o .taken) (c .before .before .before .before .before .offer .ensures .0),
-      taken,
-      l .loop .inv .0,
-      length-take (length text - l .loop .at) (drop (l .loop .at) text),
-      length-drop (l .loop .at) text,
-    )
-
--- src/main.rt:33:9
-add-at : tie.Need-add-at Inv-loop μ-loop
-add-at c = omega (arith, inside c, c .before .before .before .before .before .before .before .before .before .before .before .good)
-
--- src/main.rt:34:9
 add-turns : tie.Need-add-turns Inv-loop μ-loop
-add-turns c = omega (arith, c .before .before .before .before .before .before .before .before .loop-test)
+add-turns c = search needs
 
--- src/main.rt:29:5
+slice-aggregate-line : tie.Need-slice-aggregate-line Inv-loop μ-loop
+slice-aggregate-line c = search needs
+
+line-requires : tie.Need-line-requires Inv-loop μ-loop
+line-requires c κs = search needs
+
+is-wanted-requires : tie.Need-is-wanted-requires Inv-loop μ-loop
+is-wanted-requires c κs = search needs
+
+slice-aggregate-answer : tie.Need-slice-aggregate-answer Inv-loop μ-loop
+slice-aggregate-answer c = search needs
+
+slice-aggregate-answer-2 : tie.Need-slice-aggregate-answer-2 Inv-loop μ-loop
+slice-aggregate-answer-2 c = search needs
+
+answer-requires : tie.Need-answer-requires Inv-loop μ-loop
+answer-requires c κs = search needs
+
+print-rows-requires : tie.Need-print-rows-requires Inv-loop μ-loop
+print-rows-requires c κs = search needs
+
 loop-less : tie.Need-loop-less Inv-loop μ-loop
-loop-less c = omega (arith, c .before .before .before .before .before .before .before .before .loop-test)
+loop-less c = search needs
 
--- src/main.rt:29:5
 loop-again : tie.Need-loop-again Inv-loop μ-loop
-loop-again c = (inside c, c .before .before .before .before .before .offer .kept .1 .0 ∙ c .before .before .before .before .before .before .before .before .before .loop .inv .1)
+loop-again c = search needs
 
--- src/main.rt:24:1
+slice-aggregate-feed : tie.Need-slice-aggregate-feed Inv-loop μ-loop
+slice-aggregate-feed c = search needs
+
+sub-feed : tie.Need-sub-feed Inv-loop μ-loop
+sub-feed c = search needs
+
+part-feed-start : tie.Need-part-feed-start Inv-loop μ-loop
+part-feed-start c = search needs
+
+part-feed-end : tie.Need-part-feed-end Inv-loop μ-loop
+part-feed-end c = search needs
+
+feed-requires : tie.Need-feed-requires Inv-loop μ-loop
+feed-requires c κs = search needs
+
+add-at : tie.Need-add-at Inv-loop μ-loop
+add-at c =
+    let l = c .before .before .before .before .before .before .before .before .before .before .before .before .before .before .before .before .loop in
+    let text = c .before .before .before .before .before .before .before .before .before .before .before .before .before .before .before .before .before .before .args .text .now in
+    let f = c .before .before .before .feed in
+    let piece = take (length text - l .at) (drop (l .at) text) in
+    let size : f .result .taken ≤ length piece = rw (f .ensures .0) (fed-taken (l .s .session) (c .before .before .before .before .before .before .before .before .before .answer .result .refusal) (l .window) piece) in
+    omega (arith, size, l .inv, length-take (length text - l .at) (drop (l .at) text), length-drop (l .at) text, c .before .before .before .before .before .before .before .before .before .before .before .before .before .before .before .before .before .before .good)
+
+goes-on-requires : tie.Need-goes-on-requires Inv-loop μ-loop
+goes-on-requires c κs = search needs
+
 returns : tie.Need-returns Inv-loop μ-loop
-returns c = tt
+returns c = search needs
+
+loop-less-2 : tie.Need-loop-less-2 Inv-loop μ-loop
+loop-less-2 c = omega (arith, c .before .before .before .before .before .before .before .before .before .before .before .before .before .before .before .before .before .loop-test .taken)
+
+loop-again-2 : tie.Need-loop-again-2 Inv-loop μ-loop
+loop-again-2 c =
+    let l = c .before .before .before .before .before .before .before .before .before .before .before .before .before .before .before .before .before .before .loop in
+    let text = c .before .before .before .before .before .before .before .before .before .before .before .before .before .before .before .before .before .before .before .before .args .text .now in
+    let f = c .before .before .before .before .before .feed in
+    let piece = take (length text - l .at) (drop (l .at) text) in
+    let size : f .result .taken ≤ length piece = rw (f .ensures .0) (fed-taken (l .s .session) (c .before .before .before .before .before .before .before .before .before .before .before .answer .result .refusal) (l .window) piece) in
+    omega (arith, size, l .inv, length-take (length text - l .at) (drop (l .at) text), length-drop (l .at) text, c .before .before .before .before .before .before .before .before .before .before .before .before .before .before .before .before .before .before .before .before .good)
+
+returns-2 : tie.Need-returns-2 Inv-loop μ-loop
+returns-2 c = search needs
 
 pub search-spec : {M : Type 1} → statement M
 search-spec =
@@ -95,15 +108,24 @@ search-spec =
     Inv-loop
     μ-loop
     loop-holds
-    slice-aggregate-offer
-    sub-offer
-    part-offer-start
-    part-offer-end
-    offer-requires
-    slice-aggregate-answer-all
-    answer-all-requires
-    add-at
     add-turns
+    slice-aggregate-line
+    line-requires
+    is-wanted-requires
+    slice-aggregate-answer
+    slice-aggregate-answer-2
+    answer-requires
+    print-rows-requires
     loop-less
     loop-again
-    returns)
+    slice-aggregate-feed
+    sub-feed
+    part-feed-start
+    part-feed-end
+    feed-requires
+    add-at
+    goes-on-requires
+    returns
+    loop-less-2
+    loop-again-2
+    returns-2)

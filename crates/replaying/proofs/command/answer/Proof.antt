@@ -18,126 +18,96 @@ use Rattle.replaying.proofs.command.with_searcher.Reads as with-searche
 use Rattle.replaying.proofs.command.within.Reads as within-reads
 use Rattle.searcher.proofs.Searcher.answer.Reads as answer-reads
 
--- src/command.rt:155:9
 number-at-requires : tie.Need-number-at-requires
 number-at-requires c κs = search needs
 
--- src/command.rt:156:31
 number-at-requires-2 : tie.Need-number-at-requires-2
 number-at-requires-2 c κs = search needs
 
--- src/command.rt:156:23
 enum-known-size : tie.Need-enum-known-size
 enum-known-size c = search needs
 
--- src/command.rt:157:27
 enum-told : tie.Need-enum-told
 enum-told c = search needs
 
--- src/command.rt:157:9
 bad-requires : tie.Need-bad-requires
 bad-requires c κs = search needs
 
--- src/command.rt:157:9
 same-length : tie.Need-same-length
 same-length c = search needs
 
--- src/command.rt:157:9
 returns : tie.Need-returns
 returns c = search needs
 
--- src/command.rt:160:9
 is-within-requires : tie.Need-is-within-requires
 is-within-requires c κs = search needs
 
--- src/command.rt:161:9
 bad-requires-2 : tie.Need-bad-requires-2
 bad-requires-2 c κs = search needs
 
--- src/command.rt:161:9
 same-length-2 : tie.Need-same-length-2
 same-length-2 c = search needs
 
--- src/command.rt:161:9
 returns-2 : tie.Need-returns-2
 returns-2 c = search needs
 
--- src/command.rt:164:9
 bad-requires-3 : tie.Need-bad-requires-3
 bad-requires-3 c κs = search needs
 
--- src/command.rt:164:9
 same-length-3 : tie.Need-same-length-3
 same-length-3 c = search needs
 
--- src/command.rt:164:9
 returns-3 : tie.Need-returns-3
 returns-3 c = search needs
 
--- src/command.rt:167:9
 within-requires : tie.Need-within-requires
 within-requires c κs = search needs
 
--- src/command.rt:168:29
 slice-aggregate-answer : tie.Need-slice-aggregate-answer
 slice-aggregate-answer c = search needs
 
--- src/command.rt:168:44
 slice-relend-prefix-answer : tie.Need-slice-relend-prefix-answer
 slice-relend-prefix-answer c = search needs
 
--- src/command.rt:168:44
 slice-aggregate-answer-2 : tie.Need-slice-aggregate-answer-2
 slice-aggregate-answer-2 c = omega (arith, length-take (c .before .before .before .before .before .before .before .before .size .given .0 .0) (c .before .before .before .before .before .before .before .before .before .before .before .before .before .before .before .before .args .table .now), c .before .before .before .before .if2 .left)
 
--- src/command.rt:168:67
 value-requires : tie.Need-value-requires
 value-requires c κs = search needs
 
--- src/command.rt:168:9
 answer-requires : tie.Need-answer-requires
 answer-requires c κs = search needs
 
--- src/command.rt:169:9
 with-searcher-requires : tie.Need-with-searcher-requires
 with-searcher-requires c κs = search needs
 
--- src/command.rt:170:39
 slice-aggregate-said-number : tie.Need-slice-aggregate-said-number
 slice-aggregate-said-number c = search needs
 
--- src/command.rt:170:9
 said-number-requires : tie.Need-said-number-requires
 said-number-requires c κs = search needs
 
--- src/command.rt:171:42
 slice-aggregate-said-number-2 : tie.Need-slice-aggregate-said-number-2
 slice-aggregate-said-number-2 c = search needs
 
--- src/command.rt:171:9
 said-number-requires-2 : tie.Need-said-number-requires-2
 said-number-requires-2 c κs = search needs
 
--- src/command.rt:172:16
 said-rows-requires : tie.Need-said-rows-requires
 said-rows-requires c κs = search needs
 
--- src/command.rt:172:5
 ended-line-requires : tie.Need-ended-line-requires
 ended-line-requires c κs = search needs
 
--- src/command.rt:154:1
 same-length-4 : tie.Need-same-length-4
 same-length-4 c =
     let table = c .before .before .before .before .before .before .before .before .before .before .before .before .before .before .before .before .before .before .before .before .before .before .before .before .before .before .before .before .before .before .before .before .before .before .before .before .before .before .before .before .args .table .now in
     let n = c .before .before .before .before .before .before .before .before .before .before .before .before .before .before .before .before .before .before .before .before .before .before .before .before .before .before .before .before .before .before .before .before .size .given .0 .0 in
     omega (arith, c .before .before .before .before .before .before .before .before .before .before .before .before .before .before .before .before .before .before .before .before .before .before .answer .kept .1 .1 .0, c .before .before .before .before .before .before .before .before .before .before .before .before .before .before .before .before .before .before .before .before .before .before .before .before .before .before .before .before .if2 .left, length-append (c .before .before .before .before .before .before .before .before .before .before .before .before .before .before .before .before .before .before .before .before .before .before .answer .last .1 .1 .0) (drop n table), length-drop n table, length-take n table)
 
--- src/command.rt:154:1
 same-length-5 : tie.Need-same-length-5
 same-length-5 c = c .before .before .ended-line .kept .1 .0 ∙ c .before .before .before .before .before .before .said-rows .kept .1 .0 ∙ c .before .before .before .before .before .before .before .before .before .before .before .said-number2 .kept .1 .0 ∙ c .before .before .before .before .before .before .before .before .before .before .before .before .before .before .before .before .said-number .kept .1 .0
 
--- src/command.rt:154:1
 returns-4 : tie.Need-returns-4
 returns-4 c = search needs
 

@@ -15,105 +15,80 @@ use Rattle.replaying.proofs.command.with_searcher.Reads as with-searche
 use Rattle.replaying.proofs.command.within.Reads as within-reads
 use Rattle.searcher.proofs.Searcher.offer.Reads as offer-reads
 
--- src/command.rt:125:44
 word-requires : tie.Need-word-requires
 word-requires c κs = search needs
 
--- src/command.rt:125:33
 hex-requires : tie.Need-hex-requires
 hex-requires c κs = search needs
 
--- src/command.rt:125:24
 enum-known-count : tie.Need-enum-known-count
 enum-known-count c = search needs
 
--- src/command.rt:126:27
 enum-told : tie.Need-enum-told
 enum-told c = search needs
 
--- src/command.rt:126:9
 bad-requires : tie.Need-bad-requires
 bad-requires c κs = search needs
 
--- src/command.rt:126:9
 same-length : tie.Need-same-length
 same-length c = search needs
 
--- src/command.rt:126:9
 same-length-2 : tie.Need-same-length-2
 same-length-2 c = search needs
 
--- src/command.rt:126:9
 returns : tie.Need-returns
 returns c = search needs
 
--- src/command.rt:129:9
 within-requires : tie.Need-within-requires
 within-requires c κs = search needs
 
--- src/command.rt:130:9
 within-requires-2 : tie.Need-within-requires-2
 within-requires-2 c κs = search needs
 
--- src/command.rt:131:27
 slice-relend-prefix-offer : tie.Need-slice-relend-prefix-offer
 slice-relend-prefix-offer c = search needs
 
--- src/command.rt:131:27
 slice-aggregate-offer : tie.Need-slice-aggregate-offer
 slice-aggregate-offer c = search needs
 
--- src/command.rt:131:46
 slice-reshare-prefix-offer : tie.Need-slice-reshare-prefix-offer
 slice-reshare-prefix-offer c = search needs
 
--- src/command.rt:131:46
 slice-aggregate-offer-2 : tie.Need-slice-aggregate-offer-2
 slice-aggregate-offer-2 c = search needs
 
--- src/command.rt:131:9
 offer-requires : tie.Need-offer-requires
 offer-requires c κs = search needs
 
--- src/command.rt:132:9
 with-searcher-requires : tie.Need-with-searcher-requires
 with-searcher-requires c κs = search needs
 
--- src/command.rt:133:39
 slice-aggregate-said-number : tie.Need-slice-aggregate-said-number
 slice-aggregate-said-number c = search needs
 
--- src/command.rt:133:9
 said-number-requires : tie.Need-said-number-requires
 said-number-requires c κs = search needs
 
--- src/command.rt:134:39
 slice-aggregate-said-number-2 : tie.Need-slice-aggregate-said-number-2
 slice-aggregate-said-number-2 c = search needs
 
--- src/command.rt:134:16
 said-number-requires-2 : tie.Need-said-number-requires-2
 said-number-requires-2 c κs = search needs
 
--- src/command.rt:134:5
 ended-line-requires : tie.Need-ended-line-requires
 ended-line-requires c κs = search needs
 
--- src/command.rt:124:1
 same-length-3 : tie.Need-same-length-3
 same-length-3 c =
     let room = c .before .before .before .before .before .before .before .before .before .before .before .before .before .before .before .before .before .before .before .before .before .before .before .before .before .before .before .before .before .before .before .before .before .before .before .before .before .args .room .now in
     omega (arith, c .before .before .before .before .before .before .before .before .before .before .before .before .before .before .before .before .before .offer .kept .1 .0, c .before .before .before .before .before .before .before .before .before .before .before .before .before .before .before .before .before .before .before .before .before .before .within .ensures .0, length-append (c .before .before .before .before .before .before .before .before .before .before .before .before .before .before .before .before .before .offer .last .1 .0) (drop (c .before .before .before .before .before .before .before .before .before .before .before .before .before .before .before .before .before .before .before .before .before .before .within .result) room), length-drop (c .before .before .before .before .before .before .before .before .before .before .before .before .before .before .before .before .before .before .before .before .before .before .within .result) room)
 
--- src/command.rt:124:1
 same-length-4 : tie.Need-same-length-4
 same-length-4 c = c .before .before .before .before .before .before .before .before .before .before .before .before .before .before .before .before .before .before .before .before .before .before .before .before .before .before .before .before .before .before .hex .kept .1 .0
 
--- src/command.rt:124:1
 same-length-5 : tie.Need-same-length-5
 same-length-5 c = search needs
 
--- src/command.rt:124:1
 returns-2 : tie.Need-returns-2
 returns-2 c = search needs
 

@@ -7,43 +7,33 @@ use Rattle.replaying.proofs.command.said_four.Reads as reads
 use Rattle.replaying.proofs.command.said_four.Lts as lts
 use Rattle.replaying.proofs.command.said_number.Reads as said-number-reads
 
--- src/command.rt:197:41
 slice-aggregate-said-number : tie.Need-slice-aggregate-said-number
 slice-aggregate-said-number c = search needs
 
--- src/command.rt:197:9
 said-number-requires : tie.Need-said-number-requires
 said-number-requires c κs = search needs
 
--- src/command.rt:198:42
 slice-aggregate-said-number-2 : tie.Need-slice-aggregate-said-number-2
 slice-aggregate-said-number-2 c = search needs
 
--- src/command.rt:198:9
 said-number-requires-2 : tie.Need-said-number-requires-2
 said-number-requires-2 c κs = search needs
 
--- src/command.rt:199:42
 slice-aggregate-said-number-3 : tie.Need-slice-aggregate-said-number-3
 slice-aggregate-said-number-3 c = search needs
 
--- src/command.rt:199:9
 said-number-requires-3 : tie.Need-said-number-requires-3
 said-number-requires-3 c κs = search needs
 
--- src/command.rt:200:29
 slice-aggregate-said-number-4 : tie.Need-slice-aggregate-said-number-4
 slice-aggregate-said-number-4 c = search needs
 
--- src/command.rt:200:5
 said-number-requires-4 : tie.Need-said-number-requires-4
 said-number-requires-4 c κs = search needs
 
--- src/command.rt:196:1
 same-length : tie.Need-same-length
 same-length c = c .before .before .said-number4 .kept .1 .0 ∙ c .before .before .before .before .before .before .before .said-number3 .kept .1 .0 ∙ c .before .before .before .before .before .before .before .before .before .before .before .before .said-number2 .kept .1 .0 ∙ c .before .before .before .before .before .before .before .before .before .before .before .before .before .before .before .before .before .said-number .kept .1 .0
 
--- src/command.rt:196:1
 returns : tie.Need-returns
 returns c = search needs
 

@@ -16,43 +16,33 @@ Inv-loop out₀ numbers told₀ i₀ t6 out told i = (i ≤ length numbers) × (
 abbrev μ-loop : tie.MeasureT-loop
 μ-loop out₀ numbers told₀ i₀ t6 out told i = length numbers - i
 
--- src/command.rt:224:5
 loop-holds : tie.Need-loop-holds Inv-loop μ-loop
 loop-holds c = omega arith
 
--- src/command.rt:225:39
 slice-aggregate-said-number : tie.Need-slice-aggregate-said-number Inv-loop μ-loop
 slice-aggregate-said-number c = omega arith
 
--- src/command.rt:225:45
 mul-said-number : tie.Need-mul-said-number Inv-loop μ-loop
 mul-said-number c = omega arith
 
--- src/command.rt:225:45
 shared-slice-read-said-number : tie.Need-shared-slice-read-said-number Inv-loop μ-loop
 shared-slice-read-said-number c = omega arith
 
--- src/command.rt:225:9
 said-number-requires : tie.Need-said-number-requires Inv-loop μ-loop
 said-number-requires c κs = tt
 
--- src/command.rt:226:9
 add-i : tie.Need-add-i Inv-loop μ-loop
 add-i c = omega arith
 
--- src/command.rt:224:5
 loop-less : tie.Need-loop-less Inv-loop μ-loop
 loop-less c = omega arith
 
--- src/command.rt:224:5
 loop-again : tie.Need-loop-again Inv-loop μ-loop
 loop-again c = omega arith
 
--- src/command.rt:221:1
 same-length : tie.Need-same-length Inv-loop μ-loop
 same-length c = c .before .loop .inv .1
 
--- src/command.rt:221:1
 returns : tie.Need-returns Inv-loop μ-loop
 returns c = tt
 

@@ -17,39 +17,30 @@ Inv-loop out₀ table rows count told₀ i₀ out told i = (i ≤ count) × (4 *
 abbrev μ-loop : tie.MeasureT-loop
 μ-loop out₀ table rows count told₀ i₀ out told i = count - i
 
--- src/command.rt:173:9
 least-requires : tie.Need-least-requires Inv-loop μ-loop
 least-requires c κs = tt
 
--- src/command.rt:176:5
 loop-holds : tie.Need-loop-holds Inv-loop μ-loop
 loop-holds c = omega arith
 
--- src/command.rt:177:43
 mul-said-row : tie.Need-mul-said-row Inv-loop μ-loop
 mul-said-row c = omega arith
 
--- src/command.rt:177:9
 said-row-requires : tie.Need-said-row-requires Inv-loop μ-loop
 said-row-requires c κs = omega arith
 
--- src/command.rt:178:9
 add-i : tie.Need-add-i Inv-loop μ-loop
 add-i c = omega arith
 
--- src/command.rt:176:5
 loop-less : tie.Need-loop-less Inv-loop μ-loop
 loop-less c = omega arith
 
--- src/command.rt:176:5
 loop-again : tie.Need-loop-again Inv-loop μ-loop
 loop-again c = omega arith
 
--- src/command.rt:172:1
 same-length : tie.Need-same-length Inv-loop μ-loop
 same-length c = c .before .loop .inv .2
 
--- src/command.rt:172:1
 returns : tie.Need-returns Inv-loop μ-loop
 returns c = tt
 

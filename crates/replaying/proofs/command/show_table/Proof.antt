@@ -11,111 +11,84 @@ use Rattle.replaying.proofs.command.ended_line.Reads as ended-line-read
 use Rattle.replaying.proofs.command.said.Reads as said-reads
 use Rattle.replaying.proofs.command.said_numbers.Reads as said-numbers-reads
 
--- src/command.rt:207:32
 number-at-requires : tie.Need-number-at-requires
 number-at-requires c κs = search needs
 
--- src/command.rt:207:23
 enum-known-first : tie.Need-enum-known-first
 enum-known-first c = search needs
 
--- src/command.rt:208:27
 enum-told : tie.Need-enum-told
 enum-told c = search needs
 
--- src/command.rt:208:9
 bad-requires : tie.Need-bad-requires
 bad-requires c κs = search needs
 
--- src/command.rt:208:9
 same-length : tie.Need-same-length
 same-length c = search needs
 
--- src/command.rt:208:9
 returns : tie.Need-returns
 returns c = search needs
 
--- src/command.rt:210:31
 number-at-requires-2 : tie.Need-number-at-requires-2
 number-at-requires-2 c κs = search needs
 
--- src/command.rt:210:23
 enum-known-last : tie.Need-enum-known-last
 enum-known-last c = search needs
 
--- src/command.rt:211:27
 enum-told-2 : tie.Need-enum-told-2
 enum-told-2 c = search needs
 
--- src/command.rt:211:9
 bad-requires-2 : tie.Need-bad-requires-2
 bad-requires-2 c κs = search needs
 
--- src/command.rt:211:9
 same-length-2 : tie.Need-same-length-2
 same-length-2 c = search needs
 
--- src/command.rt:211:9
 returns-2 : tie.Need-returns-2
 returns-2 c = search needs
 
--- src/command.rt:216:9
 bad-requires-3 : tie.Need-bad-requires-3
 bad-requires-3 c κs = search needs
 
--- src/command.rt:216:9
 same-length-3 : tie.Need-same-length-3
 same-length-3 c = search needs
 
--- src/command.rt:216:9
 returns-3 : tie.Need-returns-3
 returns-3 c = search needs
 
--- src/command.rt:219:9
 bad-requires-4 : tie.Need-bad-requires-4
 bad-requires-4 c κs = search needs
 
--- src/command.rt:219:9
 same-length-4 : tie.Need-same-length-4
 same-length-4 c = search needs
 
--- src/command.rt:219:9
 returns-4 : tie.Need-returns-4
 returns-4 c = search needs
 
--- src/command.rt:222:39
 slice-aggregate-said : tie.Need-slice-aggregate-said
 slice-aggregate-said c = search needs
 
--- src/command.rt:222:22
 said-requires : tie.Need-said-requires
 said-requires c κs = search needs
 
--- src/command.rt:222:55
 mul-said-numbers : tie.Need-mul-said-numbers
 mul-said-numbers c = omega (arith, c .before .before .before .before .before .before .before .if1 .left, c .before .before .before .before .before .before .if2 .left, c .before .before .before .before .before .before .before .before .before .before .before .before .before .before .before .before .before .before .before .good)
 
--- src/command.rt:222:55
 part-said-numbers-start : tie.Need-part-said-numbers-start
 part-said-numbers-start c = search needs
 
--- src/command.rt:222:55
 part-said-numbers-end : tie.Need-part-said-numbers-end
 part-said-numbers-end c = search needs
 
--- src/command.rt:222:9
 said-numbers-requires : tie.Need-said-numbers-requires
 said-numbers-requires c κs = search needs
 
--- src/command.rt:221:5
 ended-line-requires : tie.Need-ended-line-requires
 ended-line-requires c κs = search needs
 
--- src/command.rt:206:1
 same-length-5 : tie.Need-same-length-5
 same-length-5 c = search needs
 
--- src/command.rt:206:1
 returns-5 : tie.Need-returns-5
 returns-5 c = search needs
 

@@ -8,11 +8,9 @@ use Rattle.replaying.proofs.command.within.Reads as reads
 use Rattle.replaying.proofs.command.within.Lts as lts
 use Rattle.replaying.proofs.command.least.Reads as least-reads
 
--- src/command.rt:326:5
 least-requires : tie.Need-least-requires
 least-requires c κs = search needs
 
--- src/command.rt:323:1
 returns : tie.Need-returns
 returns c =
     let least = length-take (c .least .result) (c .before .before .args .bytes .now) in

@@ -7,15 +7,12 @@ use Rattle.searcher.proofs.Searcher.answer.Reads as reads
 use Rattle.searcher.proofs.Searcher.answer.Lts as lts
 use Rattle.answering.proofs.answer.Reads as answer-reads
 
--- src/lib.rt:134:13
 answer-requires : tie.Need-answer-requires
 answer-requires c κs = search needs
 
--- src/lib.rt:129:5
 same-length : tie.Need-same-length
 same-length c = search needs
 
--- src/lib.rt:129:5
 returns : tie.Need-returns
 unfolding doorAnswered
 returns c = (rw (c .before .before .before .answer .ensures .0), c .before .before .before .answer .ensures .1)

@@ -4,13 +4,11 @@ use Rattle.searcher.proofs.Searcher.closed.Statement.{statement}
 use Rattle.searcher.proofs.Searcher.closed.Tie as tie
 use Rattle.searcher.proofs.Searcher.closed.Reads as reads
 use Rattle.searcher.proofs.Searcher.closed.Lts as lts
-use Rattle.searcher.proofs.closed_session.Reads as closed-session-reads
+use Rattle.opening.proofs.closed_session.Reads as closed-session-reads
 
--- src/lib.rt:57:13
 closed-session-requires : tie.Need-closed-session-requires
 closed-session-requires c κs = search needs
 
--- src/lib.rt:54:5
 returns : tie.Need-returns
 returns c = rw (c .closed-session .ensures)
 

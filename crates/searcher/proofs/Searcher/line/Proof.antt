@@ -20,15 +20,12 @@ use Rattle.held.proofs.is_sound.Reads as is-sound-reads
 use Rattle.held.proofs.next_line.Reads as next-line-reads
 use Rattle.lines.proofs.without_terminator.Reads as without-terminator-reads
 
--- src/lib.rt:114:13
 is-sound-requires : tie.Need-is-sound-requires
 is-sound-requires c κs = search needs
 
--- src/lib.rt:115:13
 slice-aggregate-result : tie.Need-slice-aggregate-result
 slice-aggregate-result c = search needs
 
--- src/lib.rt:115:13
 returns : tie.Need-returns
 returns c =
     let a = c .before .before .before .before .before .args in
@@ -56,55 +53,44 @@ ends c =
       sound-window (a .self .session) (length (a .window .now)) e,
     )
 
--- src/lib.rt:117:15
 next-line-requires : tie.Need-next-line-requires
 next-line-requires c κs =
     let a = c .before .before .before .before .args in
     let agree = sound-agrees (a .self .session) (length (a .window .now)) (sounds c) in
     (agree .next-end, omega (arith, agree, sound-window (a .self .session) (length (a .window .now)) (sounds c)))
 
--- src/lib.rt:118:28
 enum-known-length : tie.Need-enum-known-length
 enum-known-length c = search needs
 
--- src/lib.rt:120:27
 add-end : tie.Need-add-end
 add-end c = omega (arith, ends c, c .before .before .before .before .before .before .before .before .good)
 
--- src/lib.rt:122:43
 sub-without-terminator : tie.Need-sub-without-terminator
 sub-without-terminator c = search needs
 
--- src/lib.rt:122:43
 part-without-terminator-start : tie.Need-part-without-terminator-start
 part-without-terminator-start c = search needs
 
--- src/lib.rt:122:43
 part-without-terminator-end : tie.Need-part-without-terminator-end
 part-without-terminator-end c =
     let h : c .before .before .before .before .before .before .before .before .before .args .self .session .next + c .before .before .length .given .0 .0 ≤ length (c .before .before .before .before .before .before .before .before .before .args .window .now) = ends (c .before) in
     search needs
 
--- src/lib.rt:122:17
 without-terminator-requires : tie.Need-without-terminator-requires
 without-terminator-requires c κs = search needs
 
--- src/lib.rt:124:33
 enum-told : tie.Need-enum-told
 enum-told c = search needs
 
--- src/lib.rt:124:33
 slice-aggregate-result-2 : tie.Need-slice-aggregate-result-2
 slice-aggregate-result-2 c = search needs
 
--- src/lib.rt:110:5
 returns-2 : tie.Need-returns-2
 returns-2 c =
     let a = c .before .before .before .before .before .before .before .before .before .before .before .args in
     let line = waiting (c .before .before .before) in
     rw (line .1) at (c .without-terminator .ensures) ∙ shown-line (a .self .session) (a .window .now) (sounds (c .before .before .before .before .before .before .before)) (line .0)
 
--- src/lib.rt:110:5
 returns-3 : tie.Need-returns-3
 returns-3 c =
     let a = c .before .before .before .before .before .before .before .before .args in

@@ -7,15 +7,12 @@ use Rattle.searcher.proofs.Searcher.offer.Reads as reads
 use Rattle.searcher.proofs.Searcher.offer.Lts as lts
 use Rattle.offering.proofs.offer.Reads as offer-reads
 
--- src/lib.rt:85:13
 offer-requires : tie.Need-offer-requires
 offer-requires c κs = search needs
 
--- src/lib.rt:80:5
 same-length : tie.Need-same-length
 same-length c = search needs
 
--- src/lib.rt:80:5
 returns : tie.Need-returns
 unfolding doorOffered
 returns c = (rw (c .before .before .before .offer .ensures .0), c .before .before .before .offer .ensures .1)

@@ -16,11 +16,9 @@ use Rattle.searcher.proofs.Searcher.waiting.Lts as lts
 use Rattle.held.proofs.is_sound.Reads as is-sound-reads
 use Rattle.held.proofs.next_line.Reads as next-line-reads
 
--- src/lib.rt:100:13
 is-sound-requires : tie.Need-is-sound-requires
 is-sound-requires c κs = search needs
 
--- src/lib.rt:101:13
 returns : tie.Need-returns
 returns c =
     let a = c .before .before .before .before .args in
@@ -29,29 +27,24 @@ returns c =
 sounds : (c : tie.Else1) → let a = c .before .before .before .before .args in sound (a .self .session) (length (a .window .now)) ≡ true
 sounds c = sym (c .before .is-sound .ensures) ∙ not-false _ (c .if1 .left)
 
--- src/lib.rt:103:15
 next-line-requires : tie.Need-next-line-requires
 next-line-requires c κs =
     let a = c .before .before .before .before .args in
     let agree = sound-agrees (a .self .session) (length (a .window .now)) (sounds c) in
     (agree .next-end, omega (arith, agree, sound-window (a .self .session) (length (a .window .now)) (sounds c)))
 
--- src/lib.rt:104:34
 enum-told : tie.Need-enum-told
 enum-told c = search needs
 
--- src/lib.rt:105:33
 enum-told-2 : tie.Need-enum-told-2
 enum-told-2 c = search needs
 
--- src/lib.rt:96:5
 returns-2 : tie.Need-returns-2
 returns-2 c =
     let a = c .before .before .before .before .before .before .before .args in
     waiting-line (a .self .session) (a .window .now) (sounds (c .before .before .before))
     (waits-line (a .self .session) (a .window .now) _ (sym (c .enum-told .given .1) ∙ c .before .before .next-line .ensures) .0)
 
--- src/lib.rt:96:5
 returns-3 : tie.Need-returns-3
 returns-3 c =
     let a = c .before .before .before .before .before .before .before .args in

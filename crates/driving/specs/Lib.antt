@@ -1,0 +1,2 @@
+-- What the calls hand back.
+pub mod Door

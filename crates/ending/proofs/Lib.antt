@@ -1,0 +1,2 @@
+-- What is proved of the end.
+pub mod Laws

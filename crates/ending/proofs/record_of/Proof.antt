@@ -1,0 +1,26 @@
+-- Cause and place, laid out.
+use Rattle.session.specs.Calls.{recordOf}
+use borrow.Author.Needs.{needs}
+use Rattle.ending.proofs.record_of.Statement.{statement}
+use Rattle.ending.proofs.record_of.Tie as tie
+use Rattle.ending.proofs.record_of.Reads as reads
+use Rattle.ending.proofs.record_of.Lts as lts
+use Rattle.ending.proofs.cause_of.Reads as cause-of-reads
+use Rattle.ending.proofs.end_with.Reads as end-with-reads
+use Rattle.ending.proofs.recorded_place.Reads as recorded-place-reads
+
+cause-of-requires : tie.Need-cause-of-requires
+cause-of-requires c κs = search needs
+
+recorded-place-requires : tie.Need-recorded-place-requires
+recorded-place-requires c κs = search needs
+
+end-with-requires : tie.Need-end-with-requires
+end-with-requires c κs = search needs
+
+returns : tie.Need-returns
+unfolding recordOf
+returns c = rw (c .end-with .ensures, c .before .recorded-place .ensures, c .before .before .cause-of .ensures)
+
+pub record-of-spec : {M : Type 1} → statement M
+record-of-spec = tie.close (tie.spec cause-of-requires recorded-place-requires end-with-requires returns)

@@ -1,0 +1,2 @@
+-- Laws of the two lines before the text.
+pub mod Heads

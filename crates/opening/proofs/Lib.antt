@@ -1,0 +1,2 @@
+-- What is proved of opening.
+pub mod Laws

@@ -1,0 +1,2 @@
+-- What the programs print, byte for byte.
+pub mod Texts

@@ -1,2 +1,0 @@
--- Where the parts of the input lie.
-pub mod Places
