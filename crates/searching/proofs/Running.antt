@@ -9,10 +9,9 @@ use Rattle.streams.specs.declared.Moved.{Moved}
 use Rattle.streams.specs.declared.Moved.the-variants.{Bytes, Nothing, Interrupted, Failed}
 use Rattle.streams.specs.Moves.{Within}
 use Rattle.search_machine.specs.declared.Phase.{Phase}
-use Rattle.search_machine.specs.declared.Phase.the-variants.{Going, Wants, Over}
+use Rattle.search_machine.specs.declared.Phase.the-variants.{Wants}
 use Rattle.search_machine.specs.declared.Search.{Search}
-use Rattle.search_machine.specs.Search.{State}
-use Rattle.search_machine.specs.Standing.{Collects, Fits, HasRoom, Heard, Hearing, Lent, Placed, ReadIn, Ready, Rests, Stepped, Turned, begins, seen, writtenOut}
+use Rattle.search_machine.specs.Standing.{Collects, Fits, HasRoom, Heard, Hearing, Lent, Placed, ReadIn, Rests, Stepped, begins, writtenOut}
 use Rattle.printing.specs.Texts.{lineMost}
 use Rattle.search_machine.proofs.Places.{part-front, same-state}
 
@@ -50,10 +49,6 @@ pub read-in : {s r : Search} {got : Moved} {window literal input after out : Lis
 read-in {s} {r} {got} {window} {literal} {input} {after} behind rests e h =
     let left : part (s .from) (s .to) after ≡ part (s .from) (s .to) input = ap (λ xs. part (s .from) (s .to) xs) e ∙ part-front (s .from) (s .to) input behind (rests .placed .from-to) (rests .placed .to-in) in
     record { got = got; stands = same-state (s .stage) (take (s .size) literal) refl refl left; heard = h }
-
-pub rests-ready : {s : Search} {window table literal input out : List ℕ} → Rests s input → Lent window table literal input out
-    → Ready s window table literal input out
-rests-ready r l = record { placed = r .placed; nothing = r .nothing; lent = l }
 
 -- what a read moved into the room behind a place fits
 moved-fits : (got : Moved) (to : ℕ) (input lent : List ℕ) → to + length lent ≤ length input → Within got lent → Fits got to input

@@ -247,22 +247,10 @@ spelled-length (suc turns) n k h = elim (decLt n 10) [
       (longer-length n k (spelled turns (n / 10)) (48 + n % 10) (λ j m. spelled-length turns (n / 10) j m) (omega arith) h)
 ]
 
-spelled-some : (turns n : ℕ) → 1 ≤ length (spelled turns n)
-unfolding spelled
-spelled-some zero n = omega arith
-spelled-some (suc turns) n = elim (decLt n 10) [
-  | yes l ↦ rw (lt-ltb n 10 l) (omega arith)
-  | no l ↦ rw (le-ltb n 10 (omega arith)) (omega (arith, length-append (spelled turns (n / 10)) ((48 + n % 10) ∷ [])))
-]
-
--- a number of 64 bits has at most 20 digits, and every number has one
+-- a number of 64 bits has at most 20 digits
 pub decimal-length : (n : ℕ) → n < 18446744073709551616 → length (decimal n) ≤ 20
 unfolding decimal
 decimal-length n h = spelled-length n n 19 (omega arith)
-
-pub decimal-some : (n : ℕ) → 1 ≤ length (decimal n)
-unfolding decimal
-decimal-some n = spelled-some n n
 
 -- # Hexadecimal
 
