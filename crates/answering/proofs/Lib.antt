@@ -1,2 +1,2 @@
--- What is proved of answering.
+-- What is proved of answering in a window.
 pub mod Laws

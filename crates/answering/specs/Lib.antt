@@ -1,2 +1,2 @@
--- What an answer gives, as the code divides it.
-pub mod Giving
+-- What the parts of the code lean on.
+pub mod Answerable

@@ -1,7 +1,8 @@
 -- 01, "Settings and sizes": the bounds, each in one place, and which settings are served.
 use Prim.Native.Nat.{ℕ}
-use mathlib.Core.Bool.{Bool, true, not, _&&_, _||_}
+use mathlib.Core.Bool.{Bool, true, false, not, _&&_, _||_}
 use lib.Dec.{ltb, leb}
+use Rattle.definition.specs.declared.Binary.the-variants.{Ignore}
 use Rattle.definition.specs.declared.Settings.{Settings}
 use Rattle.definition.specs.declared.Limit.{Limit}
 use Rattle.definition.specs.declared.Limit.the-variants.{Unlimited, Most}
@@ -37,3 +38,17 @@ allowed c =
     && leb (c .after) maxContext
     && limitInRange (c .limit)
     && not (c .passthru && contextual c)
+
+-- nothing asked for but the lines that end in a byte
+abbrev pub plain : ℕ → Settings
+plain terminator =
+    record {
+      before = 0;
+      after = 0;
+      invert = false;
+      passthru = false;
+      stop = false;
+      limit = Unlimited;
+      terminator = terminator;
+      binary = Ignore;
+    }

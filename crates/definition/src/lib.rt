@@ -1,5 +1,7 @@
 // The plain data that every layer shares: the settings of a search, how a run stands, and the sizes and bounds of
 // document 01.
+ghost use mathlib.Core.Path.{_≡_};
+ghost use Rattle.definition.specs.Bounds.{plain};
 
 // How many matches are wanted at most.
 pub enum Limit {
@@ -42,6 +44,24 @@ pub struct Settings {
     pub limit: Limit,
     pub terminator: u8,
     pub binary: Binary,
+}
+
+impl Settings {
+    // Nothing asked for but the lines that end in a byte. Others are built from these, so that a new field costs a line.
+    pub fn plain(terminator: u8) -> Settings
+        ensures { λ r. ⌜ r ≡ plain terminator ⌝ }
+    {
+        Settings {
+            before: 0,
+            after: 0,
+            invert: false,
+            passthru: false,
+            stop: false,
+            limit: Limit::Unlimited,
+            terminator: terminator,
+            binary: Binary::Ignore,
+        }
+    }
 }
 
 // Where a byte was met that the end record tells of, counting from 0.

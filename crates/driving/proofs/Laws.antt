@@ -6,17 +6,17 @@ use lib.ListN.{length}
 use borrow.Author.Tests.{eq-eqb, ne-eqb}
 use Rattle.machine.specs.declared.Next.the-variants.{Goes, Wants, Refuses, Ends}
 use Rattle.machine.specs.Program.{fed, fedBy, fedEnd, fedWindow, stays}
-use Rattle.session.specs.declared.Offered.{Offered}
+use Rattle.session.specs.declared.OfferOutcome.{OfferOutcome}
 use Rattle.session.specs.declared.Session.{Session}
 use Rattle.session.specs.Calls.{offered, offeredWindow, recorded, told}
-use Rattle.searcher.specs.declared.Offered as door-offered
-use Rattle.searcher.specs.declared.Told as door-told
+use Rattle.searcher.specs.declared.Offered.{Offered}
+use Rattle.searcher.specs.declared.Told.{Told}
 use Rattle.searcher.specs.Door.{doorOffered, doorTold}
 use Rattle.driving.specs.Door.{doorFed}
 
 -- # Offered
 
-module _ (s : Session) (o : Offered) (r : door-offered.Offered) (e : r ≡ doorOffered o) where
+module _ (s : Session) (o : OfferOutcome) (r : Offered) (e : r ≡ doorOffered o) where
   pub by-refused : (r .refusal ≡ 0 → ⊥) → doorFed (stays s (Refuses (r .refusal))) ≡ doorFed (fedBy s o)
   unfolding doorOffered
   by-refused h = rw (e, ne-eqb (o .refusal) 0 (rw e at h))
@@ -27,7 +27,7 @@ module _ (s : Session) (o : Offered) (r : door-offered.Offered) (e : r ≡ doorO
 
 -- # Told of the end
 
-module _ (s : Session) (r : door-told.Told) (e : r ≡ doorTold (told s)) where
+module _ (s : Session) (r : Told) (e : r ≡ doorTold (told s)) where
   pub end-refused : (r .refusal ≡ 0 → ⊥) → doorFed (stays s (Refuses (r .refusal))) ≡ doorFed (fedEnd s)
   unfolding doorTold fedEnd
   end-refused h = rw (e, ne-eqb (told s .refusal) 0 (rw e at h))

@@ -5,6 +5,6 @@ use lib.ListN.{length}
 use Rattle.forms.specs.declared.Decoded.{Decoded}
 use Rattle.forms.specs.declared.Decoded.the-variants.{Bytes, NoBytes}
 
-abbrev pub Fits : Decoded → List ℕ → Type 0
-Fits (Bytes n) bytes = n ≤ length bytes
-Fits NoBytes bytes = Unit
+abbrev pub DecodedWithin : Decoded → List ℕ → Type 0
+DecodedWithin (Bytes n) bytes = n ≤ length bytes
+DecodedWithin NoBytes bytes = Unit

@@ -1,5 +1,4 @@
 // How the programs' inputs are written: words that single spaces separate, decimal numbers, limits, bytes in hexadecimal.
-use definition::Binary;
 use definition::Limit;
 use definition::Settings;
 use lines::Found;
@@ -9,7 +8,7 @@ ghost use Prim.Native.Nat.{_*_, _≤_};
 ghost use lib.ListN.{length};
 ghost use Rattle.definition.specs.Text.{upTo};
 ghost use Rattle.forms.specs.First.{areRight, askedBy, askedOf, settingsOf};
-ghost use Rattle.forms.specs.Hex.{Fits};
+ghost use Rattle.forms.specs.Hex.{DecodedWithin};
 ghost use Rattle.forms.specs.Numbers.{decimalOf, digitBehind, digitsBehind, isDash, isNumber, limitOf, valueOf, withinOf};
 ghost use Rattle.forms.specs.Words.{space, spacesOf, wordOf};
 
@@ -164,7 +163,7 @@ pub fn limit(word: &[u8]) -> Bound
     }
 }
 
-// What the first line of a search asks for.
+// What a line asks for: a search with these settings, or it has another form.
 pub enum Asked {
     For(Settings),
     OtherForm,
@@ -226,15 +225,14 @@ fn settings_for(
 ) -> Settings
     ensures { λ r. ⌜ r ≡ settingsOf before after invert pass limit ⌝ }
 {
+    let plain = Settings::plain(b'\n');
     Settings {
         before: value(before) as usize,
         after: value(after) as usize,
         invert: value(invert) == 1,
         passthru: value(pass) == 1,
-        stop: false,
         limit: limit,
-        terminator: b'\n',
-        binary: Binary::Ignore,
+        ..plain
     }
 }
 
@@ -256,7 +254,7 @@ pub enum Decoded {
 
 // Puts the bytes that a word writes, two lower-case hexadecimal digits each or `-` for none, at a buffer's front.
 pub fn hex(word: &[u8], bytes: &mut [u8]) -> Decoded
-    ensures { λ r. ⌜ Fits r (now (bytes .exit)) ⌝ }
+    ensures { λ r. ⌜ DecodedWithin r (now (bytes .exit)) ⌝ }
 {
     if is_dash(word) {
         return Decoded::Bytes(0);

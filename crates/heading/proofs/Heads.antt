@@ -2,12 +2,13 @@
 use Prim.Native.Nat.{ℕ, _+_, _-_, _≤_, _<_}
 use mathlib.Core.Path.{_≡_, refl, sym, _∙_, ap, subst}
 use mathlib.Core.Bool.{Bool, true, false, cond}
-use mathlib.Core.List.{List, []}
+use mathlib.Core.List.{List, [], _++_}
 use native.Mathlib.Omega.{arith}
 use lib.Dec.{leb, ltb}
 use lib.ListN.{length, take, drop}
+use lib.Seq.{take-at}
 use borrow.Author.Tests.{eq-eqb, leb-true, ltb-false, ltb-true, ne-eqb}
-use Rattle.definition.specs.Text.{firstPlace, part, putAt}
+use Rattle.definition.specs.Text.{firstPlace, part}
 use Rattle.forms.specs.declared.Asked.{Asked}
 use Rattle.forms.specs.declared.Asked.the-variants.{For}
 use Rattle.forms.specs.First.{askedOf}
@@ -15,9 +16,9 @@ use Rattle.definition.specs.declared.Settings.{Settings}
 use Rattle.line_buffer.specs.Buffer.{rolled}
 use Rattle.literal.specs.declared.Pair.{Pair}
 use Rattle.machine.specs.Machine.{ends, goes, wants}
-use Rattle.searcher.specs.declared.Opened as door-opened
+use Rattle.searcher.specs.declared.Opened.{Opened}
 use Rattle.searcher.specs.Door.{doorOpened, searcher}
-use Rattle.session.specs.declared.Opened.{Opened}
+use Rattle.session.specs.declared.OpenOutcome.{OpenOutcome}
 use Rattle.session.specs.declared.Session.{Session}
 use Rattle.session.specs.Calls.{opened}
 use Rattle.session.proofs.Parts.{part-drop, part-length}
@@ -33,7 +34,7 @@ use Rattle.search_machine.specs.Search.{asks, search, stateAt, turnOf}
 use Rattle.search_machine.specs.Standing.{HeadReady, OpenedTo, Ready, Turned, begunWith, openedWith, overWith, refused, seen, served, wantingWith}
 use Rattle.printing.specs.Texts.{newline, refusedText}
 use Rattle.search_machine.proofs.Places.{same-state, tells-within}
-use Rattle.search_machine.proofs.Places.{part-rolled, part-take, take-put}
+use Rattle.search_machine.proofs.Places.{part-rolled, part-take}
 use Rattle.machine.proofs.Leads.{closes-ends, leads-goes, leads-none}
 
 -- # How a line stands
@@ -59,7 +60,7 @@ looked-few xs h = subst (λ k. Stands k xs) (sym h) (looked xs)
 
 -- # Opening
 
-module _ (s : Search) (o : Opened) (from : ℕ) (out : List ℕ) (q : door-opened.Opened) (e : q ≡ doorOpened o) where
+module _ (s : Search) (o : OpenOutcome) (from : ℕ) (out : List ℕ) (q : Opened) (e : q ≡ doorOpened o) where
   pub opened-served : q .refusal ≡ 0 → OpenedTo s o from out (openedWith s (q .searcher) from) out
   unfolding doorOpened
   opened-served h = served (rw e at h) (rw e) refl
@@ -178,14 +179,14 @@ module _ (s : Search) (w literal input out : List ℕ) (ready : HeadReady s lite
 
   -- the second line was read
   pub once-begun : (n : ℕ) (pair : Pair) → s .stage ≡ Second → Whole n ≡ lookedAt (part (s .from) (s .to) input)
-      → (after : List ℕ) → after ≡ putAt 0 (part (s .from) (s .from + n) input) literal
+      → (after : List ℕ) → after ≡ part (s .from) (s .from + n) input ++ drop (length (part (s .from) (s .from + n) input)) literal
       → Turned (seen s w literal input) (begunWith s n pair (s .from + n + 1)) w after input out
   once-begun n pair e h after d =
       let st = seen s w literal input in
       let rest = part (s .from) (s .to) input in
       let line = part (s .from) (s .from + n) input in
       let size : length line ≡ n = omega (arith, part-length (s .from) (s .from + n) input (omega arith) (omega (arith, inside n h, ready .placed))) in
-      let literal-is : take n after ≡ take n rest = ap (λ xs. take n xs) d ∙ ap (λ k. take k (putAt 0 line literal)) (sym size) ∙ take-put line literal ∙ part-take (s .from) (s .to) n input (omega (arith, inside n h)) in
+      let literal-is : take n after ≡ take n rest = ap (λ xs. take n xs) d ∙ take-at line (drop (length line) literal) n size ∙ part-take (s .from) (s .to) n input (omega (arith, inside n h)) in
       record {
         count = 0 + 1;
         does = (omega arith, rw (nothing-yet, literal-is, sym (behind n)) (leads-goes search 0 st [] st [] _ (leads-none search st) (second-whole (s .stage) (take (s .size) literal) (s .searcher .session) w rest n e h)));

@@ -1,5 +1,4 @@
 // The two lines before the text: each has its newline, and at most 1,024 bytes before it.
-use definition::Binary;
 use definition::Settings;
 use forms::Asked;
 use lines::Found;
@@ -20,7 +19,8 @@ ghost use Rattle.search_machine.specs.Head.{lookedAt};
 ghost use Rattle.search_machine.specs.Standing.{HeadReady, OpenedTo, Turned, begunWith, overWith, seen, wantingWith};
 ghost use Rattle.printing.specs.Texts.{lineMost};
 
-const LONGEST: usize = 1_024;
+// The longest either may be, without its newline.
+pub const LONGEST: usize = 1_024;
 
 fn look(bytes: &[u8]) -> Seen
     ensures { λ r. ⌜ r ≡ lookedAt (now (bytes .entry)) ⌝ }
@@ -99,7 +99,7 @@ pub fn second(
     match look(&input[from..to]) {
         Seen::Whole(length) => {
             let end = from + length;
-            line_buffer::take_in(literal, 0, &input[from..end], Binary::Ignore, 0);
+            bytes::copy(&input[from..end], literal);
             begun(s, length, literal::choose(&literal[..length]), end + 1)
         }
         Seen::Unfinished => wanting(s, input),

@@ -31,22 +31,15 @@ pub fn take_in(window: &mut [u8], end: usize, piece: &[u8], binary: Binary, term
     requires { ⌜ end + length (now piece) ≤ length (now window) ⌝ }
     ensures { λ _. ⌜ now (window .exit) ≡ putAt end (converted binary terminator (now (piece .entry))) (now (window .entry)) ⌝ }
 {
+    // Copying is apart from the converting loop, since it has nothing to test: it moves 32 bytes a turn.
     match binary {
-        Binary::Ignore => copy(&mut window[end..], piece),
-        Binary::Quit(_) => copy(&mut window[end..], piece),
+        Binary::Ignore => {
+            bytes::copy(piece, &mut window[end..]);
+        }
+        Binary::Quit(_) => {
+            bytes::copy(piece, &mut window[end..]);
+        }
         Binary::Convert(byte) => replace_bytes(&mut window[end..], piece, byte, terminator),
-    }
-}
-
-// Apart from the converting loop, since this one has nothing to test: it moves 32 bytes a turn.
-fn copy(tail: &mut [u8], piece: &[u8])
-    requires { ⌜ length (now piece) ≤ length (now tail) ⌝ }
-    ensures { λ _. ⌜ now (tail .exit) ≡ now (piece .entry) ++ drop (length (now (piece .entry))) (now (tail .entry)) ⌝ }
-{
-    let mut i = 0;
-    while i < piece.len() {
-        tail[i] = piece[i];
-        i += 1;
     }
 }
 

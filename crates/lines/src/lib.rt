@@ -78,9 +78,10 @@ pub fn count(s: &[u8], terminator: u8) -> usize
     n
 }
 
-// The line without its terminator, if it has one.
+// The line without its terminator, if it has one: that part of it, from its front.
 pub fn without_terminator(line: &[u8], terminator: u8) -> &[u8]
     ensures { λ r. ⌜ now r ≡ withoutTerminator terminator (now (line .entry)) ⌝ }
+    ensures { λ r. ⌜ r .ptr ≡ line .entry .ptr ⌝ }
 {
     let end = line.len();
     if end == 0 {

@@ -1,9 +1,10 @@
 -- The claims of specs/Examples.antt, by computation.
 use mathlib.Core.Path.{refl}
-use Rattle.literal.specs.Choice.{placeIn, rarestOf, rarestBut}
+use Rattle.definition.specs.Text.{firstPlace, upTo}
+use Rattle.literal.specs.Choice.{rarestOf, rarestBut}
 use Rattle.literal.specs.Examples.{Holds, Chooses}
 use Rattle.literal.specs.Literal.{startsWith, stands}
 
 pub examples-hold : Holds × Chooses
-unfolding startsWith stands placeIn rarestOf rarestBut
+unfolding startsWith stands firstPlace upTo rarestOf rarestBut
 examples-hold = (refl, refl)

@@ -1,5 +1,5 @@
 -- What is proved of the literal matcher.
 pub mod Stands
-pub mod Places
+pub mod Sweeps
 pub mod Rarity
 pub mod Examples

@@ -1,5 +1,5 @@
 -- The choice of two bytes, place by place.
-use Prim.Native.Nat.{ℕ, suc, _+_, _<_}
+use Prim.Native.Nat.{ℕ, _+_, _<_}
 use mathlib.Core.Path.{_≡_}
 use mathlib.Core.Bool.{cond, not, _&&_}
 use mathlib.Core.List.{List}
@@ -7,23 +7,10 @@ use native.Mathlib.Numerals.{add-one}
 use lib.Dec.{eqb, ltb}
 use lib.ListN.{length, getD, drop}
 use lib.Seq.{drop-cons, drop-length}
-use borrow.Author.Tests.{eq-eqb, ne-eqb}
-use Rattle.literal.specs.Choice.{common, placeIn, rarestOf}
+use Rattle.definition.specs.Text.{firstPlace}
+use Rattle.literal.specs.Choice.{common, rarestOf}
 
-pub place-here : (b : ℕ) (bytes : List ℕ) (i : ℕ) → i < length bytes → getD bytes i 0 ≡ b → placeIn b (drop i bytes) ≡ 0
-unfolding placeIn
-place-here b bytes i l e = rw (drop-cons bytes i 0 l, eq-eqb (getD bytes i 0) b e)
-
-pub place-further : (b : ℕ) (bytes : List ℕ) (i : ℕ) → i < length bytes → (getD bytes i 0 ≡ b → ⊥)
-    → placeIn b (drop i bytes) ≡ suc (placeIn b (drop (i + 1) bytes))
-unfolding placeIn
-place-further b bytes i l e = rw (add-one i, drop-cons bytes i 0 l, ne-eqb (getD bytes i 0) b e)
-
-pub place-end : (b : ℕ) (bytes : List ℕ) → placeIn b (drop (length bytes) bytes) ≡ 0
-unfolding placeIn
-place-end b bytes = rw (drop-length bytes)
-
-pub rarest-step : (but best top : ℕ) (literal : List ℕ) (i rarity : ℕ) → i < length literal → rarity ≡ placeIn (getD literal i 0) common
+pub rarest-step : (but best top : ℕ) (literal : List ℕ) (i rarity : ℕ) → i < length literal → rarity ≡ firstPlace (getD literal i 0) common
     → rarestOf but best top i (drop i literal)
     ≡ cond (ltb top rarity && not (eqb i but)) (rarestOf but i rarity (i + 1) (drop (i + 1) literal))
     (rarestOf but best top (i + 1) (drop (i + 1) literal))

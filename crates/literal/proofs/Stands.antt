@@ -9,7 +9,7 @@ use lib.Dec.{eqb}
 use lib.ListN.{length, getD, drop}
 use lib.Seq.{drop-cons, drop-length, drop-append-seam}
 use borrow.Author.Tests.{eqb-true, eq-eqb}
-use Rattle.literal.specs.Literal.{startsWith, stands, Place, StandsSomewhere}
+use Rattle.literal.specs.Literal.{startsWith, stands, Occurrence, StandsSomewhere}
 
 -- # A text that begins with the literal
 
@@ -92,22 +92,22 @@ starts-whole (b ∷ bs) (x ∷ xs) h =
     let t = both x b (startsWith bs xs) h in
     ap₂ {C = List ℕ} (λ y ys. y ∷ ys) (t .0) (starts-whole bs xs (t .1))
 
-front : (literal text : List ℕ) → startsWith literal text ≡ true → Place literal text
+front : (literal text : List ℕ) → startsWith literal text ≡ true → Occurrence literal text
 front literal text h = record { before = []; after = drop (length literal) text; whole = starts-whole literal text h }
 
-place-of : (literal line : List ℕ) → stands literal line ≡ true → Place literal line
+place-of : (literal line : List ℕ) → stands literal line ≡ true → Occurrence literal line
 unfolding stands
 place-of literal [] h = front literal [] h
 place-of literal (x ∷ xs) h = go (startsWith literal (x ∷ xs)) refl h (place-of literal xs)
   where
     go : (t : Bool) → startsWith literal (x ∷ xs) ≡ t → (t || stands literal xs) ≡ true
-        → (stands literal xs ≡ true → Place literal xs) → Place literal (x ∷ xs)
+        → (stands literal xs ≡ true → Occurrence literal xs) → Occurrence literal (x ∷ xs)
     go true e h further = front literal (x ∷ xs) e
     go false e h further =
         let p = further h in
         record { before = x ∷ p .before; after = p .after; whole = ap (λ ys. x ∷ ys) (p .whole) }
 
-stands-of : (literal line : List ℕ) → Place literal line → stands literal line ≡ true
+stands-of : (literal line : List ℕ) → Occurrence literal line → stands literal line ≡ true
 stands-of literal line p =
     stands-at literal line (length (p .before))
     (rw (p .whole, drop-append-seam (p .before) (literal ++ p .after)) (starts-append literal (p .after)))

@@ -4,6 +4,7 @@ use mathlib.Core.Bool.{cond, not, _&&_}
 use mathlib.Core.List.{List, [], _∷_}
 use lib.Dec.{eqb, ltb}
 use lib.ListN.{length}
+use Rattle.definition.specs.Text.{firstPlace}
 use Rattle.literal.specs.declared.Pair.{Pair}
 
 -- bytes from the most common on: space, digits, letters
@@ -11,16 +12,11 @@ abbrev pub common : List ℕ
 common =
     32 ∷ 48 ∷ 49 ∷ 50 ∷ 51 ∷ 52 ∷ 53 ∷ 54 ∷ 55 ∷ 56 ∷ 57 ∷ 101 ∷ 116 ∷ 97 ∷ 111 ∷ 105 ∷ 110 ∷ 115 ∷ 114 ∷ 104 ∷ 108 ∷ 100 ∷ 99 ∷ 117 ∷ 109 ∷ 102 ∷ 112 ∷ 103 ∷ 119 ∷ 121 ∷ 98 ∷ 118 ∷ 107 ∷ 120 ∷ 106 ∷ 113 ∷ 122 ∷ []
 
--- the first place of b, counting from 0; the length where there is none
-unfoldable pub placeIn : ℕ → List ℕ → ℕ
-placeIn b [] = 0
-placeIn b (x ∷ xs) = cond (eqb x b) 0 (suc (placeIn b xs))
-
 -- the first place of the rarest byte, but for the place `but`: of `best`, whose rarity is `top`, and the bytes from `at` on
 unfoldable pub rarestOf : ℕ → ℕ → ℕ → ℕ → List ℕ → ℕ
 rarestOf but best top at [] = best
 rarestOf but best top at (x ∷ xs) =
-    cond (ltb top (placeIn x common) && not (eqb at but)) (rarestOf but at (placeIn x common) (suc at) xs)
+    cond (ltb top (firstPlace x common) && not (eqb at but)) (rarestOf but at (firstPlace x common) (suc at) xs)
     (rarestOf but best top (suc at) xs)
 
 unfoldable pub rarestBut : ℕ → List ℕ → ℕ

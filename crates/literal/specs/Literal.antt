@@ -17,7 +17,7 @@ stands literal [] = startsWith literal []
 stands literal (x ∷ xs) = startsWith literal (x ∷ xs) || stands literal xs
 
 -- a place at which the literal stands: what is before it and what is after it
-pub record Place (literal line : List ℕ) : Type 0 where
+pub record Occurrence (literal line : List ℕ) : Type 0 where
   pub before : List ℕ
   pub after : List ℕ
   pub whole : line ≡ before ++ (literal ++ after)
@@ -25,4 +25,4 @@ pub record Place (literal line : List ℕ) : Type 0 where
 -- `stands` is true exactly where there is such a place (Stands.stands-somewhere).
 abbrev pub StandsSomewhere : Type 0
 StandsSomewhere =
-    (literal line : List ℕ) → (stands literal line ≡ true → Place literal line) × (Place literal line → stands literal line ≡ true)
+    (literal line : List ℕ) → (stands literal line ≡ true → Occurrence literal line) × (Occurrence literal line → stands literal line ≡ true)

@@ -2,7 +2,8 @@
 // fewer places are compared in vain.
 
 ghost use mathlib.Core.Path.{_≡_};
-ghost use Rattle.literal.specs.Choice.{common, placeIn, rarestBut};
+ghost use Rattle.definition.specs.Text.{firstPlace};
+ghost use Rattle.literal.specs.Choice.{common, rarestBut};
 
 // The place of the rarest byte of the literal, but for the place `but`.
 pub fn rarest_but(literal: &[u8], but: usize) -> usize
@@ -25,21 +26,7 @@ pub fn rarest_but(literal: &[u8], but: usize) -> usize
 
 // A guess at call records: spaces and digits first, then letters as often as in English; what is not listed is rarest.
 fn rarity_of(b: u8) -> usize
-    ensures { λ r. ⌜ r ≡ placeIn b common ⌝ }
+    ensures { λ r. ⌜ r ≡ firstPlace b common ⌝ }
 {
-    place_in(b, b" 0123456789etaoinsrhldcumfpgwybvkxjqz")
-}
-
-// The first place of b, the length where there is none.
-fn place_in(b: u8, bytes: &[u8]) -> usize
-    ensures { λ r. ⌜ r ≡ placeIn b (now (bytes .entry)) ⌝ }
-{
-    let mut i = 0;
-    while i < bytes.len() {
-        if bytes[i] == b {
-            return i;
-        }
-        i += 1;
-    }
-    i
+    line_buffer::first_place(b" 0123456789etaoinsrhldcumfpgwybvkxjqz", b)
 }

@@ -4,11 +4,11 @@
 // The loop over a fixed count of places has no branch in it, so that it becomes vector code.
 
 ghost use mathlib.Core.Path.{_≡_};
-ghost use Prim.Native.Nat.{_+_, _≤_, _<_, min};
+ghost use Prim.Native.Nat.{_+_, _≤_, _<_};
 ghost use lib.ListN.{length, drop};
 ghost use Rattle.literal.specs.Choice.{chosen};
 ghost use Rattle.literal.specs.Literal.{startsWith, stands};
-ghost use Rattle.literal.specs.Places.{Told, Fit, anyHit};
+ghost use Rattle.literal.specs.Sweeps.{Swept, Fit, anyHit};
 
 mod choice;
 
@@ -53,15 +53,15 @@ pub fn contains_by(line: &[u8], literal: &[u8], pair: Pair) -> bool
     if line.len() < size {
         return false;
     }
-    let first = least(pair.first, size - 1);
-    let second = least(pair.second, size - 1);
+    let first = numbers::least(pair.first, size - 1);
+    let second = numbers::least(pair.second, size - 1);
     search(line, literal, first, second, line.len() - size + 1)
 }
 
 // As many places at a time as there are.
 fn search(line: &[u8], literal: &[u8], first: usize, second: usize, to: usize) -> bool
     requires { ⌜ Fit (now literal) (now line) first second to ⌝ }
-    ensures { λ r. ⌜ Told (now (literal .entry)) (now (line .entry)) 0 to r ⌝ }
+    ensures { λ r. ⌜ Swept (now (literal .entry)) (now (line .entry)) 0 to r ⌝ }
 {
     if 64 <= to {
         return sweep_64(line, literal, first, second, to);
@@ -75,11 +75,11 @@ fn search(line: &[u8], literal: &[u8], first: usize, second: usize, to: usize) -
 // The last block reaches back over places already seen, so that it is whole too.
 fn sweep_64(line: &[u8], literal: &[u8], first: usize, second: usize, to: usize) -> bool
     requires { ⌜ Fit (now literal) (now line) first second to × (64 ≤ to) ⌝ }
-    ensures { λ r. ⌜ Told (now (literal .entry)) (now (line .entry)) 0 to r ⌝ }
+    ensures { λ r. ⌜ Swept (now (literal .entry)) (now (line .entry)) 0 to r ⌝ }
 {
     let mut i = 0;
     while i < to {
-        let at = least(i, to - 64);
+        let at = numbers::least(i, to - 64);
         i = at + 64;
         if any_hit(line, literal, first, second, at, 64) {
             if sweep_16(line, literal, first, second, at, i) {
@@ -100,11 +100,11 @@ fn sweep_16(
     to: usize,
 ) -> bool
     requires { ⌜ Fit (now literal) (now line) first second to × (from + 16 ≤ to) ⌝ }
-    ensures { λ r. ⌜ Told (now (literal .entry)) (now (line .entry)) from to r ⌝ }
+    ensures { λ r. ⌜ Swept (now (literal .entry)) (now (line .entry)) from to r ⌝ }
 {
     let mut i = from;
     while i < to {
-        let at = least(i, to - 16);
+        let at = numbers::least(i, to - 16);
         i = at + 16;
         if any_hit(line, literal, first, second, at, 16) {
             if each(line, literal, first, second, at, i) {
@@ -118,7 +118,7 @@ fn sweep_16(
 // One place at a time.
 fn each(line: &[u8], literal: &[u8], first: usize, second: usize, from: usize, to: usize) -> bool
     requires { ⌜ Fit (now literal) (now line) first second to × (from ≤ to) ⌝ }
-    ensures { λ r. ⌜ Told (now (literal .entry)) (now (line .entry)) from to r ⌝ }
+    ensures { λ r. ⌜ Swept (now (literal .entry)) (now (line .entry)) from to r ⌝ }
 {
     let mut i = from;
     while i < to {
@@ -164,10 +164,4 @@ fn starts_at(line: &[u8], literal: &[u8], at: usize) -> bool
         k += 1;
     }
     true
-}
-
-fn least(a: usize, b: usize) -> usize
-    ensures { λ r. ⌜ r ≡ min a b ⌝ }
-{
-    if a < b { a } else { b }
 }

@@ -34,15 +34,15 @@ use Rattle.machine.proofs.Counted.{Facts, all, facts, past, upto}
 
 -- one moment of a run of a program: what is still to come of the input is `rest`
 pub record Now (p : Program) (c : Settings) (input : List ℕ) (how : Ending) (s : Session) (w rest : List ℕ) (count : ℕ) (given : List Row) : Type 0 where
-  pub same : s .settings ≡ c
+  pub same : s .walk .settings ≡ c
   pub inv : Inv input (answersOf (p .matcher) c input) s w rest count given
-  pub told : s .input ≡ Ended → how ≡ whole
-  pub lines-whole : s .input ≡ Open → Whole (c .terminator) (upto c input count)
+  pub told : s .places .input ≡ Ended → how ≡ whole
+  pub lines-whole : s .places .input ≡ Open → Whole (c .terminator) (upto c input count)
 
 module _ (p : Program) (input : List ℕ) (how : Ending) (s : Session) (w rest : List ℕ) (count : ℕ) (given : List Row)
-    (n : Now p (s .settings) input how s w rest count given) where
+    (n : Now p (s .walk .settings) input how s w rest count given) where
   abbrev c : Settings
-  c = s .settings
+  c = s .walk .settings
 
   abbrev answers : ℕ → Bool
   answers = answersOf (p .matcher) c input
@@ -58,7 +58,7 @@ module _ (p : Program) (input : List ℕ) (how : Ending) (s : Session) (w rest :
 
   -- # Finished
 
-  off : (s .going ≡ On → ⊥) → goneLines c answers before .going ≡ On → ⊥
+  off : (s .walk .going ≡ On → ⊥) → goneLines c answers before .going ≡ On → ⊥
   off h e = h (sym (f .going-now) ∙ e)
 
   done-how : Done s → (goneLines c answers before .going ≡ On → ⊥) ⊎ (past c input count ≡ [])
@@ -69,39 +69,39 @@ module _ (p : Program) (input : List ℕ) (how : Ending) (s : Session) (w rest :
   unfolding text
   quit-met h = ap (quitMet (c .binary)) (f .input-is) ∙ quit-later (c .binary) (c .terminator) (f .taken) rest (f .uncut) (h .0)
 
-  ended-how : (k : Input) → s .input ≡ k → Done s
+  ended-how : (k : Input) → s .places .input ≡ k → Done s
       → (HasEnded c input how) ⊎ ((goneLines c answers before .going ≡ On → ⊥) × Whole (c .terminator) before)
   ended-how Open e (stopped h) = inr (off h, n .lines-whole e)
   ended-how Open e (ended g o l) = absurd (true≢false (sym (ap isOpen e) ∙ o))
   ended-how Ended e d = inl (inl (n .told e))
   ended-how QuitFound e d = inl (inr (quit-met (subst (λ x. InputNow c x rest) e (i .input-now))))
 
-  pub prints-finished : recorded s .refusal ≡ 0 → Prints p c (s .window) input how (said p c input before ++ p .closes (recorded s .end))
+  pub prints-finished : recorded s .refusal ≡ 0 → Prints p c (s .places .window) input how (said p c input before ++ p .closes (recorded s .end))
   prints-finished e =
       let d = served-done s e in
-      subst (λ r. Prints p c (s .window) input how (said p c input before ++ p .closes r))
+      subst (λ r. Prints p c (s .places .window) input how (said p c input before ++ p .closes r))
       (sym (finished-inv input answers s w rest count given i e .1))
-      (finished before (past c input count) (f .gone) (done-how d) (ended-how (s .input) refl d))
+      (finished before (past c input count) (f .gone) (done-how d) (ended-how (s .places .input) refl d))
 
   -- # Refused
 
-  module _ (k : ℕ) (idle : (0 < length (take k rest)) × (s .going ≡ On)) (more : 0 < length (text c rest)) (none : waits s w ≡ false) where
+  module _ (k : ℕ) (idle : (0 < length (take k rest)) × (s .walk .going ≡ On)) (more : 0 < length (text c rest)) (none : waits s w ≡ false) where
     abbrev line : List ℕ
     line = take (firstLength (c .terminator) (unanswered s w ++ text c rest)) (unanswered s w ++ text c rest)
 
     abbrev later : List (List ℕ)
     later = lines (c .terminator) (drop (firstLength (c .terminator) (unanswered s w ++ text c rest)) (unanswered s w ++ text c rest))
 
-    gone-next : Gone c input answers (s .window) before (line ∷ later)
+    gone-next : Gone c input answers (s .places .window) before (line ∷ later)
     gone-next =
         let some : 0 < length (unanswered s w ++ text c rest) = omega (arith, length-append (unanswered s w) (text c rest), more) in
-        subst (λ x. Gone c input answers (s .window) before x) (f .later-is ∙ lines-head (c .terminator) (unanswered s w ++ text c rest) some) (f .gone)
+        subst (λ x. Gone c input answers (s .places .window) before x) (f .later-is ∙ lines-head (c .terminator) (unanswered s w ++ text c rest) some) (f .gone)
 
     going-on : goneLines c answers before .going ≡ On
     going-on = f .going-now ∙ idle .1
 
     -- it reaches beyond what is held
-    beyond : s .end - s .next < length line
+    beyond : s .places .end - s .places .next < length line
     beyond =
         omega (
           arith,
@@ -109,19 +109,19 @@ module _ (p : Program) (input : List ℕ) (how : Ending) (s : Session) (w rest :
           unanswered-length s w (i .agree) (i .window-is),
         )
 
-    room-prints : takenBytes s < maxInput → s .window ≤ heldBytes s w → Prints p c (s .window) input how (said p c input before ++ p .refuses 3)
+    room-prints : takenBytes s < maxInput → s .places .window ≤ heldBytes s w → Prints p c (s .places .window) input how (said p c input before ++ p .refuses 3)
     unfolding takenBytes heldBytes
     room-prints size full =
         no-room before line later gone-next going-on (omega (arith, full, f .kept-is, beyond)) (omega (arith, size, full, f .kept-is, f .bytes-are))
 
-    size-prints : maxInput ≤ takenBytes s → Prints p c (s .window) input how (said p c input before ++ p .refuses 5)
+    size-prints : maxInput ≤ takenBytes s → Prints p c (s .places .window) input how (said p c input before ++ p .refuses 5)
     unfolding takenBytes
     size-prints size =
         too-large before line later gone-next going-on (omega (arith, size, f .bytes-are, beyond))
         (omega (arith, size, f .kept-is, f .bytes-are, kept-le s w, i .agree))
 
   pub prints-no-room : (k : ℕ) → offered s w (take k rest) .refusal ≡ 3
-      → Prints p c (s .window) input how (said p c input before ++ p .refuses 3)
+      → Prints p c (s .places .window) input how (said p c input before ++ p .refuses 3)
   unfolding offered
   prints-no-room k e =
       let o = offer-only s w (take k rest) _ (offer-case s w (take k rest)) .2 e in
@@ -130,7 +130,7 @@ module _ (p : Program) (input : List ℕ) (how : Ending) (s : Session) (w rest :
       room-prints k (idle .0, idle .2) more (o .2) (o .1) (o .3)
 
   pub prints-too-large : (k : ℕ) → waits s w ≡ false → offered s w (take k rest) .refusal ≡ 5
-      → Prints p c (s .window) input how (said p c input before ++ p .refuses 5)
+      → Prints p c (s .places .window) input how (said p c input before ++ p .refuses 5)
   unfolding offered
   prints-too-large k none e =
       let o = offer-only s w (take k rest) _ (offer-case s w (take k rest)) .1 e in
@@ -140,8 +140,8 @@ module _ (p : Program) (input : List ℕ) (how : Ending) (s : Session) (w rest :
 
   -- # Not read to its end
 
-  pub prints-cut-off : waits s w ≡ false → s .input ≡ Open → s .going ≡ On → rest ≡ [] → (how ≡ whole → ⊥)
-      → Prints p c (s .window) input how (said p c input before ++ breaksOff how p)
+  pub prints-cut-off : waits s w ≡ false → s .places .input ≡ Open → s .walk .going ≡ On → rest ≡ [] → (how ≡ whole → ⊥)
+      → Prints p c (s .places .window) input how (said p c input before ++ breaksOff how p)
   unfolding text
   prints-cut-off none e g r unended-yet =
       let u = unanswered s w in
@@ -152,7 +152,7 @@ module _ (p : Program) (input : List ℕ) (how : Ending) (s : Session) (w rest :
       let unquit : quitMet (c .binary) input ≡ false =
       ap (quitMet (c .binary)) (f .input-is ∙ ap (λ x. f .taken ++ x) r ∙ append-nil (f .taken)) ∙ quit-none (c .binary) (c .terminator) (f .taken) (f .uncut)
       in
-      cut-off before u (subst (λ x. Gone c input answers (s .window) before x) later (f .gone))
+      cut-off before u (subst (λ x. Gone c input answers (s .places .window) before x) later (f .gone))
       (λ h. ⊎-elim unended-yet (λ q. true≢false (sym q ∙ unquit)) h)
       (f .going-now ∙ g)
       (n .lines-whole e)

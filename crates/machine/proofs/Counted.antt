@@ -82,22 +82,22 @@ pub record Facts (c : Settings) (input : List ℕ) (answers : ℕ → Bool) (s :
   pub text-is : text c taken ≡ flatten (upto c input count) ++ unanswered s w
   pub input-is : input ≡ taken ++ rest
   pub uncut : Uncut c taken
-  pub bytes-are : s .bytes ≡ length (flatten (upto c input count))
-  pub going-now : goneLines c answers (upto c input count) .going ≡ s .going
+  pub bytes-are : s .walk .bytes ≡ length (flatten (upto c input count))
+  pub going-now : goneLines c answers (upto c input count) .going ≡ s .walk .going
   pub kept-is : keptBefore c answers (upto c input count) ≡ keptBytes s w
-  pub gone : Gone c input answers (s .window) (upto c input count) (past c input count)
+  pub gone : Gone c input answers (s .places .window) (upto c input count) (past c input count)
 
 module _ (input : List ℕ) (answers : ℕ → Bool) (s : Session) (w rest : List ℕ) (count : ℕ) (given : List Row)
     (i : Inv input answers s w rest count given) where
   -- the lines gone through are the first so many
-  pub gone-is : upto (s .settings) input count ≡ i .gone
+  pub gone-is : upto (s .walk .settings) input count ≡ i .gone
   gone-is =
-      let later = lines (s .settings .terminator) (unanswered s w ++ text (s .settings) rest) in
+      let later = lines (s .walk .settings .terminator) (unanswered s w ++ text (s .walk .settings) rest) in
       ap (take count) (i .lines-are) ∙ take-at (i .gone) later count (sym (i .count-is))
 
-  pub facts : Facts (s .settings) input answers s w rest count
+  pub facts : Facts (s .walk .settings) input answers s w rest count
   facts =
-      let c = s .settings in
+      let c = s .walk .settings in
       let later = lines (c .terminator) (unanswered s w ++ text c rest) in
       let at : i .gone ≡ upto c input count = sym gone-is in
       record {
@@ -106,8 +106,8 @@ module _ (input : List ℕ) (answers : ℕ → Bool) (s : Session) (w rest : Lis
         text-is = subst (λ g. text c (i .past) ≡ flatten g ++ unanswered s w) at (i .text-is);
         input-is = i .input-is;
         uncut = i .uncut;
-        bytes-are = subst (λ g. s .bytes ≡ length (flatten g)) at (i .bytes-is);
-        going-now = subst (λ g. goneLines c answers g .going ≡ s .going) at (same-lines c answers (i .gone) .1 ∙ sym (going-is input answers s w rest count given i));
+        bytes-are = subst (λ g. s .walk .bytes ≡ length (flatten g)) at (i .bytes-is);
+        going-now = subst (λ g. goneLines c answers g .going ≡ s .walk .going) at (same-lines c answers (i .gone) .1 ∙ sym (going-is input answers s w rest count given i));
         kept-is = subst (λ g. keptBefore c answers g ≡ keptBytes s w) at (kept-before input answers s w rest count given i);
         gone =
             record {
@@ -115,7 +115,7 @@ module _ (input : List ℕ) (answers : ℕ → Bool) (s : Session) (w rest : Lis
               reached =
                   subst (λ g. (xs : List (List ℕ)) (l : List ℕ) (ys : List (List ℕ)) → g ≡ xs ++ (l ∷ ys) → goneLines c answers xs .going ≡ On) at
                   (all-reached c answers (i .gone) (sym (lines-is input answers s w rest count given i) ∙ i .lines-is));
-              fitted = subst (λ g. Fitted c answers (s .window) g) at (i .fitted);
+              fitted = subst (λ g. Fitted c answers (s .places .window) g) at (i .fitted);
               within = subst (λ g. length (flatten g) ≤ maxInput) at (omega (arith, i .bytes-is, i .agree));
             };
       }

@@ -7,7 +7,7 @@ use native.Mathlib.Omega.{arith}
 use lib.Dec.{eqb}
 use lib.ListN.{length, drop}
 use borrow.Author.Tests.{eq-eqb, ne-eqb}
-use Rattle.session.specs.declared.Answering.the-variants.{AnswerRefused, Give}
+use Rattle.core.specs.Answer.{AnswerRefused, Give}
 use Rattle.session.specs.declared.Session.{Session}
 use Rattle.session.specs.Calls.{answerRows, answerSession, answering, offered, offeredWindow, recorded, shownLine, told}
 use Rattle.session.proofs.Taking.{taken-le}

@@ -47,8 +47,8 @@ module _ (p : Program) (c : Settings) (w input : List ℕ) (served : opened c (l
   fresh-is : s ≡ fresh c (length w)
   fresh-is = served-fresh c (length w) served
 
-  not-ended : s .input ≡ Ended → ⊥
-  not-ended e = let z : _≡_ {A = ℕ} 0 1 = cc (ap (λ (x : Session). x .input) fresh-is) in omega (arith, z)
+  not-ended : s .places .input ≡ Ended → ⊥
+  not-ended e = let z : _≡_ {A = ℕ} 0 1 = cc (ap (λ (x : Session). x .places .input) fresh-is) in omega (arith, z)
 
   start-weight : weight s input ≤ 2 * length input + 1
   unfolding weight
@@ -68,7 +68,7 @@ unfolding said saidFrom
 printed p c w front reads n served l =
     let input = front ++ readBytes reads in
     let s = opened c (length w) .session in
-    let window : s .window ≡ length w = ap (λ (x : Session). x .window) (fresh-is p c w input served) in
+    let window : s .places .window ≡ length w = ap (λ (x : Session). x .places .window) (fresh-is p c w input served) in
     subst (λ x. Prints p c x input (endingOf reads) (run (driver p) n (turns p (begins c w front)) reads)) window
     (settle p c input (endingOf reads) n s w front (readBytes reads) 0 [] reads (start-now p c w input served (endingOf reads)) (λ _. (refl, refl))
     (omega (arith, l, start-weight p c w input served)))

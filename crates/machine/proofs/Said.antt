@@ -59,11 +59,11 @@ said-rows p printRow h c answers s (l ∷ ls) =
         ap (λ z. f x ++ z) (printed-append f xs ys) ∙ sym (append-assoc (f x) (flatten (map f xs)) (flatten (map f ys)))
 
 module _ (p : Program) (input : List ℕ) (s : Session) (w rest : List ℕ) (count : ℕ) (given : List Row)
-    (i : Inv input (answersOf (p .matcher) (s .settings) input) s w rest count given) (v : waits s w ≡ true) where
+    (i : Inv input (answersOf (p .matcher) (s .walk .settings) input) s w rest count given) (v : waits s w ≡ true) where
   -- one line more is gone through
-  pub upto-next : upto (s .settings) input (count + 1) ≡ upto (s .settings) input count ++ (line s w ∷ [])
+  pub upto-next : upto (s .walk .settings) input (count + 1) ≡ upto (s .walk .settings) input count ++ (line s w ∷ [])
   upto-next =
-      let c = s .settings in
+      let c = s .walk .settings in
       let answers = answersOf (p .matcher) c input in
       let later = lines (c .terminator) (drop (lineLength s w) (unanswered s w) ++ text c rest) in
       ap (take (count + 1)) (i .lines-are ∙ ap (λ x. i .gone ++ x) (lines-now input answers s w rest count given i v))
@@ -71,12 +71,12 @@ module _ (p : Program) (input : List ℕ) (s : Session) (w rest : List ℕ) (cou
       ∙ take-append-add (i .gone) (line s w ∷ later) 1
       ∙ ap (λ g. g ++ (line s w ∷ [])) (sym (gone-is input answers s w rest count given i))
 
-  pub said-next : said p (s .settings) input (upto (s .settings) input (count + 1))
-      ≡ said p (s .settings) input (upto (s .settings) input count)
-      ++ p .says (shownLine s w) (answerRows s w (answersOf (p .matcher) (s .settings) input (count + 1)))
+  pub said-next : said p (s .walk .settings) input (upto (s .walk .settings) input (count + 1))
+      ≡ said p (s .walk .settings) input (upto (s .walk .settings) input count)
+      ++ p .says (shownLine s w) (answerRows s w (answersOf (p .matcher) (s .walk .settings) input (count + 1)))
   unfolding said saidFrom
   said-next =
-      let c = s .settings in
+      let c = s .walk .settings in
       let answers = answersOf (p .matcher) c input in
       let b = state c answers (begun c) (i .gone) in
       let gone = gone-is input answers s w rest count given i in

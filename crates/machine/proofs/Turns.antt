@@ -14,21 +14,21 @@ use Rattle.definition.specs.declared.Settings.{Settings}
 use Rattle.definition.specs.Rows.{rowSize}
 use Rattle.definition.specs.Text.{firstLength, firstPlace}
 use Rattle.definition.proofs.Terminator.{line-ends}
-use Rattle.session.specs.declared.Answering.the-variants.{AnswerRefused, Give}
+use Rattle.core.specs.Answer.{AnswerRefused, Give, walkNext}
+use Rattle.core.specs.Walk.{isOn}
+use Rattle.core.proofs.Keeps.{is-on}
+use Rattle.core.proofs.Laws.{before-allowed}
 use Rattle.session.specs.declared.Input.the-variants.{Open, Ended, QuitFound}
-use Rattle.session.specs.declared.Offering.{Offering}
-use Rattle.session.specs.declared.Offering.the-variants.{OfferRefused, Idle, Take}
 use Rattle.session.specs.declared.Session.{Session}
-use Rattle.session.specs.Calls.{answerRows, answerSession, answering, offerAnswer, offered, offeredWindow, offering, recorded, shownLine, stepped, stored}
-use Rattle.session.specs.Held.{isOn, isOpen, lineBytes, lineLength, unanswered, waits}
+use Rattle.session.specs.Calls.{Idle, OfferDecision, OfferRefused, Take, answerRows, answerSession, answering, offerAnswer, offered, offeredWindow, offering, placesNext, recorded, shownLine, stored}
+use Rattle.session.specs.Held.{isOpen, lineLength, unanswered, waits}
 use Rattle.session.specs.Promises.{answersOf}
-use Rattle.session.proofs.Agree.{before-allowed}
 use Rattle.session.proofs.Carry.{answer-falls, ends-now, held-ends, is-open, nothing-held, offer-falls, record-served, stopped-ends, waiting-now, weight}
 use Rattle.session.proofs.Cases.{answer-is, none, offer-case}
 use Rattle.session.proofs.Giving.{inv-given, line}
 use Rattle.session.proofs.History.{answer-gives, inv-offer}
 use Rattle.session.proofs.Invariant.{Inv, sound-now}
-use Rattle.session.proofs.Keeps.{is-on, waits-why}
+use Rattle.session.proofs.Keeps.{why-waits}
 use Rattle.session.proofs.Promises.{asked-inv}
 use Rattle.session.proofs.Taking.{taken-le}
 use Rattle.machine.specs.Machine.{ends, goes, wants}
@@ -46,23 +46,23 @@ module _ (p : Program) (c : Settings) (input : List ℕ) (how : Ending) (s : Ses
         → Now p c input how s' w' (rest' ++ future) count' given'
         → weight s' (rest' ++ future) < weight s (rest ++ future)
         → said p c input (upto c input count') ≡ said p c input (upto c input count) ++ text
-        → s' .window ≡ s .window
-        → (s' .input ≡ Open → s .input ≡ Open)
+        → s' .places .window ≡ s .places .window
+        → (s' .places .input ≡ Open → s .places .input ≡ Open)
         → Did
     halted : (text : List ℕ) → turns p (at s w rest) ≡ ends text
-        → Prints p c (s .window) input how (said p c input (upto c input count) ++ text) → Did
-    lacks : turns p (at s w rest) ≡ wants (at s w rest) → rest ≡ [] → s .input ≡ Open → s .going ≡ On → waits s w ≡ false → Did
+        → Prints p c (s .places .window) input how (said p c input (upto c input count) ++ text) → Did
+    lacks : turns p (at s w rest) ≡ wants (at s w rest) → rest ≡ [] → s .places .input ≡ Open → s .walk .going ≡ On → waits s w ≡ false → Did
 
 -- an offer leaves the settings and the window's length
-offer-same : (o : Offering) (s : Session) (w piece : List ℕ)
-    → (offerAnswer o s w piece .session .settings ≡ s .settings) × (offerAnswer o s w piece .session .window ≡ s .window)
+offer-same : (o : OfferDecision) (s : Session) (w piece : List ℕ)
+    → (offerAnswer o s w piece .session .walk .settings ≡ s .walk .settings) × (offerAnswer o s w piece .session .places .window ≡ s .places .window)
 unfolding stored
 offer-same (OfferRefused k) s w piece = (refl, refl)
 offer-same Idle s w piece = (refl, refl)
 offer-same (Take n q) s w piece = (refl, refl)
 
 -- and does not tell the end
-offer-ended : (o : Offering) (s : Session) (w piece : List ℕ) → s .input ≡ Open → offerAnswer o s w piece .session .input ≡ Ended → ⊥
+offer-ended : (o : OfferDecision) (s : Session) (w piece : List ℕ) → s .places .input ≡ Open → offerAnswer o s w piece .session .places .input ≡ Ended → ⊥
 unfolding stored
 offer-ended (OfferRefused k) s w piece e h = let z : _≡_ {A = ℕ} 0 1 = cc in omega arith
 offer-ended Idle s w piece e h = let z : _≡_ {A = ℕ} 0 1 = cc in omega arith
@@ -70,9 +70,9 @@ offer-ended (Take n true) s w piece e h = let z : _≡_ {A = ℕ} 0 1 = cc in om
 offer-ended (Take n false) s w piece e h = let z : _≡_ {A = ℕ} 0 1 = cc in omega arith
 
 module _ (p : Program) (input : List ℕ) (how : Ending) (s : Session) (w rest future : List ℕ) (count : ℕ) (given : List Row)
-    (n : Now p (s .settings) input how s w (rest ++ future) count given) where
+    (n : Now p (s .walk .settings) input how s w (rest ++ future) count given) where
   abbrev c : Settings
-  c = s .settings
+  c = s .walk .settings
 
   abbrev answers : ℕ → Bool
   answers = answersOf (p .matcher) c input
@@ -86,15 +86,15 @@ module _ (p : Program) (input : List ℕ) (how : Ending) (s : Session) (w rest f
   -- # A line waits
 
   -- while the input is open the line that waits has its terminator
-  line-whole : waits s w ≡ true → s .input ≡ Open → firstPlace (c .terminator) (line s w) < length (line s w)
-  unfolding line lineLength lineBytes
+  line-whole : waits s w ≡ true → s .places .input ≡ Open → firstPlace (c .terminator) (line s w) < length (line s w)
+  unfolding line lineLength
   line-whole v e =
       let t = c .terminator in
       let u = unanswered s w in
-      ⊎-elim (λ h. omega (arith, line-ends t u h)) (λ h. absurd (let z : _≡_ {A = ℕ} 0 1 = cc (ap isOpen e) in omega (arith, z))) (waits-why s w v .1)
+      ⊎-elim (λ h. omega (arith, line-ends t u h)) (λ h. absurd (let z : _≡_ {A = ℕ} 0 1 = cc (ap isOpen e) in omega (arith, z))) (why-waits s w v .1)
 
   answered-now : (v : waits s w ≡ true) → Now p c input how (answerSession s w (answers (count + 1))) w (rest ++ future) (count + 1) (given ++ answerRows s w (answers (count + 1)))
-  unfolding answerSession stepped
+  unfolding answerSession placesNext walkNext
   answered-now v =
       record {
         same = refl;
@@ -106,10 +106,10 @@ module _ (p : Program) (input : List ℕ) (how : Ending) (s : Session) (w rest f
       }
 
   did-answer : waits s w ≡ true → Does
-  unfolding answerSession stepped
+  unfolding answerSession placesNext walkNext
   did-answer v =
       let hit = answers (count + 1) in
-      let room : rowSize * (c .before + 2) ≤ tableSize = omega (arith, before-allowed c (i .agree .set)) in
+      let room : rowSize * (c .before + 2) ≤ tableSize = omega (arith, before-allowed c (i .agree .walk .set)) in
       let e = waiting-now input answers s w (rest ++ future) count given i v in
       went (p .says (shownLine s w) (answerRows s w hit)) (answerSession s w hit) w rest (count + 1) (given ++ answerRows s w hit)
       (turn-gives p s w rest hit (sym (asked-inv (p .matcher) input s w (rest ++ future) count given i e))
@@ -129,16 +129,16 @@ module _ (p : Program) (input : List ℕ) (how : Ending) (s : Session) (w rest f
   did-end v e = halted (p .closes (recorded s .end)) (fed-turn v ∙ feeds-ends p s w rest e) (prints-finished p input how s w (rest ++ future) count given n e)
 
   -- with lines or input left the run goes on and the input is open
-  still-open : waits s w ≡ false → (recorded s .refusal ≡ 0 → ⊥) → (s .input ≡ Open) × (s .going ≡ On)
-  still-open v e = go (isOn (s .going)) refl (isOpen (s .input)) refl
+  still-open : waits s w ≡ false → (recorded s .refusal ≡ 0 → ⊥) → (s .places .input ≡ Open) × (s .walk .going ≡ On)
+  still-open v e = go (isOn (s .walk .going)) refl (isOpen (s .places .input)) refl
     where
-      go : (g : Bool) → isOn (s .going) ≡ g → (o : Bool) → isOpen (s .input) ≡ o → (s .input ≡ Open) × (s .going ≡ On)
+      go : (g : Bool) → isOn (s .walk .going) ≡ g → (o : Bool) → isOpen (s .places .input) ≡ o → (s .places .input ≡ Open) × (s .walk .going ≡ On)
       go false g o k = absurd (e (ends-now input answers s w (rest ++ future) count given i (stopped-ends s g)))
       go true g false k =
           absurd (e (ends-now input answers s w (rest ++ future) count given i (held-ends s k (nothing-held input answers s w (rest ++ future) count given i v g k))))
-      go true g true k = (is-open (s .input) k, is-on (s .going) g)
+      go true g true k = (is-open (s .places .input) k, is-on (s .walk .going) g)
 
-  offered-now : s .input ≡ Open
+  offered-now : s .places .input ≡ Open
       → Now p c input how (offered s w rest .session) (offeredWindow s w rest) (drop (offered s w rest .taken) rest ++ future) count given
   unfolding offered
   offered-now e =

@@ -10,11 +10,10 @@ use Rattle.definition.specs.declared.Row.{Row}
 use Rattle.definition.specs.declared.Settings.{Settings}
 use Rattle.definition.specs.Bounds.{maxContext}
 use Rattle.definition.specs.Rows.{rowSize}
-use Rattle.session.specs.declared.Answering.{Answering}
-use Rattle.session.specs.declared.Answering.the-variants.{AnswerRefused, Give}
-use Rattle.session.specs.declared.Offered.{Offered}
+use Rattle.core.specs.Answer.{AnswerDecision, AnswerRefused, Give}
+use Rattle.session.specs.declared.OfferOutcome.{OfferOutcome}
 use Rattle.session.specs.declared.Session.{Session}
-use Rattle.session.specs.declared.Told.{Told}
+use Rattle.session.specs.declared.TellOutcome.{TellOutcome}
 use Rattle.session.specs.Calls.{answerRows, answerSession, answering, offered, offeredWindow, opened, recorded, shownLine, told}
 use Rattle.machine.specs.declared.Fed.{Fed}
 use Rattle.machine.specs.declared.Next.{Next}
@@ -26,7 +25,7 @@ use Rattle.machine.specs.Machine.{Machine, Read, Turn, ended, ends, fail
 abbrev pub stays : Session → Next → Fed
 stays s next = record { session = s; taken = 0; next = next }
 
-abbrev pub fedBy : Session → Offered → Fed
+abbrev pub fedBy : Session → OfferOutcome → Fed
 fedBy s o =
     cond (eqb (o .refusal) 0) (record { session = o .session; taken = o .taken; next = Goes }) (stays s (Refuses (o .refusal)))
 
@@ -84,7 +83,7 @@ feeds p st k =
     onward (f .next) p
     (record { session = f .session; window = fedWindow (st .session) k (st .window) (st .rest); rest = drop (f .taken) (st .rest) })
 
-abbrev pub answers : Answering → Bool → Program → Standing → Turn Standing
+abbrev pub answers : AnswerDecision → Bool → Program → Standing → Turn Standing
 answers Give hit p st =
     goes (p .says (shownLine (st .session) (st .window)) (answerRows (st .session) (st .window) hit))
     (record { session = answerSession (st .session) (st .window) hit; window = st .window; rest = st .rest })

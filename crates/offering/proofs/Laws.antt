@@ -17,10 +17,8 @@ use Rattle.definition.specs.Text.{firstPlace, putAt, text, textUnder, upTo}
 use Rattle.definition.proofs.Uncut.{length-replaced, upTo-take}
 use Rattle.line_buffer.specs.Buffer.{converted, rolled}
 use Rattle.line_buffer.proofs.Laws.{roll-take-in}
-use Rattle.session.specs.declared.Offering.{Offering}
-use Rattle.session.specs.declared.Offering.the-variants.{OfferRefused, Idle, Take}
 use Rattle.session.specs.declared.Session.{Session}
-use Rattle.session.specs.Calls.{beforeQuit, fitting, idle, offering, quitFront, quitPlace, storedWindow, taking}
+use Rattle.session.specs.Calls.{Idle, OfferDecision, OfferRefused, Take, beforeQuit, fitting, idle, offering, quitFront, quitPlace, storedWindow, taking}
 use Rattle.session.specs.Held.{heldBytes, keptFrom, waits}
 use Rattle.session.specs.Sound.{sound, takenBytes}
 use Rattle.session.proofs.Cases.{OfferCase, full, offer-is, quits, sized, takes}
@@ -76,7 +74,7 @@ reach-is k piece room before taken e f =
 
 -- # The decision of each path
 
-pub planned-is : (s : Session) (w piece : List ℕ) (o : Offering) → OfferCase s w piece o → planOf o (keptFrom s w) ≡ planned s w piece
+pub planned-is : (s : Session) (w piece : List ℕ) (o : OfferDecision) → OfferCase s w piece o → planOf o (keptFrom s w) ≡ planned s w piece
 unfolding planned
 planned-is s w piece o h = ap (λ p. planOf p (keptFrom s w)) (sym (offer-is s w piece o h))
 
@@ -114,29 +112,29 @@ some {n} h = elim (decLt 0 n) [ yes k ↦ k | no k ↦ absurd (h (omega arith)) 
 module _ (s : Session) (w piece : List ℕ) (from : ℕ) (so : Sounded s w from) (i : idle s piece ≡ false) where
   -- room in the window behind the held part, and in the size
   abbrev free : ℕ
-  free = s .window - (s .end - from)
+  free = s .places .window - (s .places .end - from)
 
   abbrev left : ℕ
   left = maxInput - takenBytes s
 
   abbrev reach : Reach
-  reach = reached (s .settings .binary) piece (min free left)
+  reach = reached (s .walk .settings .binary) piece (min free left)
 
   sounds : sound s (length w) ≡ true
   sounds = sound-of s (length w) (so .agree) (so .same)
 
-  free-is : free ≡ s .window - heldBytes s w
-  free-is = ap (λ k. s .window - (s .end - k)) (so .from-is) ∙ ap (λ k. s .window - k) (held-from s w (so .agree .next-end))
+  free-is : free ≡ s .places .window - heldBytes s w
+  free-is = ap (λ k. s .places .window - (s .places .end - k)) (so .from-is) ∙ ap (λ k. s .places .window - k) (held-from s w (so .agree .places .next-end))
 
   front-is : (reach .quit && eqb (reach .taken) 0) ≡ quitFront s piece
   unfolding reached quitFront beforeQuit
-  front-is = front (quitPlace (s .settings .binary) piece) (min free left) (length piece)
+  front-is = front (quitPlace (s .walk .settings .binary) piece) (min free left) (length piece)
 
   taking-is : taking s w piece ≡ Take (reach .taken) (reach .quit)
   unfolding taking fitting beforeQuit reached
   taking-is = rw free-is
 
-  planned-from : (o : Offering) → OfferCase s w piece o → planOf o from ≡ planned s w piece
+  planned-from : (o : OfferDecision) → OfferCase s w piece o → planOf o from ≡ planned s w piece
   planned-from o h = ap (planOf o) (so .from-is) ∙ planned-is s w piece o h
 
   pub path-front : (reach .quit && eqb (reach .taken) 0) ≡ true → Store from 0 true ≡ planned s w piece
@@ -159,14 +157,14 @@ module _ (s : Session) (w piece : List ℕ) (from : ℕ) (so : Sounded s w from)
   path-take h k j =
       rw taking-is at (planned-from (taking s w piece) (takes (sounds, i, sym front-is ∙ h) (omega (arith, some k)) (room (waits s w) (eqb free 0) refl refl j)))
     where
-      room : (b f : Bool) → waits s w ≡ b → eqb free 0 ≡ f → (not b && f) ≡ false → (waits s w ≡ true) ⊎ (heldBytes s w < s .window)
+      room : (b f : Bool) → waits s w ≡ b → eqb free 0 ≡ f → (not b && f) ≡ false → (waits s w ≡ true) ⊎ (heldBytes s w < s .places .window)
       room true f v z j = inl v
       room false true v z j = absurd (false≢true (sym j))
       room false false v z j = inr (omega (arith, free-is, some (eqb-false free 0 z)))
 
 -- # What is stored
 
-plan-store : (o : Offering) (from at n : ℕ) (quit : Bool) → Store at n quit ≡ planOf o from → (o ≡ Take n quit) × (at ≡ from)
+plan-store : (o : OfferDecision) (from at n : ℕ) (quit : Bool) → Store at n quit ≡ planOf o from → (o ≡ Take n quit) × (at ≡ from)
 plan-store (OfferRefused k) from at n quit h =
     let z : _≡_ {A = ℕ} 0 1 = cc in
     absurd (omega arith)
@@ -175,7 +173,7 @@ plan-store Idle from at n quit h =
     absurd (omega arith)
 plan-store (Take m q) from at n quit h = (cc, cc)
 
-plan-refuse : (o : Offering) (from k : ℕ) → Refuse k ≡ planOf o from → o ≡ OfferRefused k
+plan-refuse : (o : OfferDecision) (from k : ℕ) → Refuse k ≡ planOf o from → o ≡ OfferRefused k
 plan-refuse (OfferRefused m) from k h = cc
 plan-refuse Idle from k h =
     let z : _≡_ {A = ℕ} 0 1 = cc in
@@ -184,7 +182,7 @@ plan-refuse (Take m q) from k h =
     let z : _≡_ {A = ℕ} 0 1 = cc in
     absurd (omega arith)
 
-plan-nothing : (o : Offering) (from : ℕ) → Nothing ≡ planOf o from → o ≡ Idle
+plan-nothing : (o : OfferDecision) (from : ℕ) → Nothing ≡ planOf o from → o ≡ Idle
 plan-nothing (OfferRefused m) from h =
     let z : _≡_ {A = ℕ} 0 1 = cc in
     absurd (omega arith)
@@ -213,11 +211,11 @@ module _ (s : Session) (w piece : List ℕ) where
       let is = store-is from n quit h in
       let taken : Taken s w piece n quit = subst (λ o. TakenIf s w piece o) (is .0) (offer-taken s w piece) in
       let room = taken .room in
-      let held = held-from s w (taken .agree .next-end) in
+      let held = held-from s w (taken .agree .places .next-end) in
       record {
         sounded = record { agree = taken .agree; same = taken .size; from-is = is .1 };
         fits = rw (is .1, held) (room .window);
-        some = omega (arith, room .quit, quit-le (s .settings .binary) piece);
+        some = omega (arith, room .quit, quit-le (s .walk .settings .binary) piece);
         uncut = room .quit;
       }
 
@@ -232,13 +230,13 @@ length-converted (Quit b) t bytes = refl
 length-converted (Convert b) t bytes = length-replaced b t bytes
 
 pub stored-bytes : (s : Session) (w piece : List ℕ) (from n : ℕ) → Storing s w piece from n
-    → putAt (s .end - from) (converted (s .settings .binary) (s .settings .terminator) (take n piece)) (rolled from (s .end) w) ≡ storedWindow s w piece n
+    → putAt (s .places .end - from) (converted (s .walk .settings .binary) (s .walk .settings .terminator) (take n piece)) (rolled from (s .places .end) w) ≡ storedWindow s w piece n
 unfolding storedWindow text keptFrom
 stored-bytes s w piece from n r =
-    let bytes = converted (s .settings .binary) (s .settings .terminator) (take n piece) in
+    let bytes = converted (s .walk .settings .binary) (s .walk .settings .terminator) (take n piece) in
     let a = r .sounded .agree in
-    let count : length bytes ≡ n = length-converted (s .settings .binary) (s .settings .terminator) (take n piece) ∙ length-take-le n piece (r .some) in
-    let from-le : from ≤ s .end = omega (arith, r .sounded .from-is) in
-    let end-le : s .end ≤ length w = omega (arith, r .sounded .same) in
-    rw (sym (r .sounded .from-is), sym (converted-text (s .settings .binary) (s .settings .terminator) n piece (r .uncut)))
-    (rw count at (roll-take-in from (s .end) bytes w from-le end-le))
+    let count : length bytes ≡ n = length-converted (s .walk .settings .binary) (s .walk .settings .terminator) (take n piece) ∙ length-take-le n piece (r .some) in
+    let from-le : from ≤ s .places .end = omega (arith, r .sounded .from-is) in
+    let end-le : s .places .end ≤ length w = omega (arith, r .sounded .same) in
+    rw (sym (r .sounded .from-is), sym (converted-text (s .walk .settings .binary) (s .walk .settings .terminator) n piece (r .uncut)))
+    (rw count at (roll-take-in from (s .places .end) bytes w from-le end-le))

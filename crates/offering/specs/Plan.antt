@@ -6,17 +6,16 @@ use mathlib.Core.Path.{_≡_}
 use lib.Dec.{ltb, eqb}
 use lib.ListN.{length}
 use Rattle.definition.specs.declared.Binary.{Binary}
-use Rattle.session.specs.declared.Offering.{Offering}
-use Rattle.session.specs.declared.Offering.the-variants.{OfferRefused, Idle, Take}
+use Rattle.core.specs.Walk.{isOn}
 use Rattle.session.specs.declared.Session.{Session}
-use Rattle.session.specs.Calls.{offering, quitPlace}
-use Rattle.session.specs.Held.{isOn, isOpen, keptFrom}
+use Rattle.session.specs.Calls.{Idle, OfferDecision, OfferRefused, Take, offering, quitPlace}
+use Rattle.session.specs.Held.{isOpen, keptFrom}
 use Rattle.session.specs.Sound.{Agree}
 use Rattle.offering.specs.declared.Plan.{Plan}
 use Rattle.offering.specs.declared.Plan.the-variants.{Refuse, Nothing, Store}
 use Rattle.offering.specs.declared.Reach.{Reach}
 
-abbrev pub planOf : Offering → ℕ → Plan
+abbrev pub planOf : OfferDecision → ℕ → Plan
 planOf (OfferRefused k) from = Refuse k
 planOf Idle from = Nothing
 planOf (Take n quit) from = Store from n quit
@@ -26,7 +25,7 @@ planned s w piece = planOf (offering s w piece) (keptFrom s w)
 
 -- `idle` of a piece's length
 unfoldable pub idleAt : Session → ℕ → Bool
-idleAt s piece = eqb piece 0 || not (isOpen (s .input)) || not (isOn (s .going))
+idleAt s piece = eqb piece 0 || not (isOpen (s .places .input)) || not (isOn (s .walk .going))
 
 -- as many bytes as come before a Quit byte and have room
 unfoldable pub reached : Binary → List ℕ → ℕ → Reach
@@ -39,12 +38,12 @@ reached binary piece room =
 -- a session that agrees with itself and the window, and where its kept part starts
 pub record Sounded (s : Session) (w : List ℕ) (from : ℕ) : Type 0 where
   pub agree : Agree s
-  pub same : length w ≡ s .window
+  pub same : length w ≡ s .places .window
   pub from-is : from ≡ keptFrom s w
 
 -- and bytes of a piece that have room behind it and no Quit byte among them
 pub record Storing (s : Session) (w piece : List ℕ) (from n : ℕ) : Type 0 where
   pub sounded : Sounded s w from
-  pub fits : s .end - from + n ≤ s .window
+  pub fits : s .places .end - from + n ≤ s .places .window
   pub some : n ≤ length piece
-  pub uncut : n ≤ quitPlace (s .settings .binary) piece
+  pub uncut : n ≤ quitPlace (s .walk .settings .binary) piece

@@ -1,14 +1,15 @@
-// Offering a piece: first what is to be done, in the order of the refusals, then the window's bytes and the session.
+// OfferDecision a piece: first what is to be done, in the order of the refusals, then the window's bytes and the session.
+use core::LineAhead;
 use definition::Binary;
 use definition::Place;
-use held::NextLine;
 use lines::Found;
 use session::Input;
-use session::Offered;
+use session::OfferOutcome;
+use session::Places;
 use session::Session;
 ghost use mathlib.Core.Path.{_≡_};
 ghost use mathlib.Core.Bool.{false, cond, not, _&&_};
-ghost use Prim.Native.Nat.{_≤_, min};
+ghost use Prim.Native.Nat.{_≤_};
 ghost use lib.Dec.{eqb};
 ghost use lib.ListN.{length};
 ghost use Rattle.definition.specs.Bounds.{maxInput, maxWindow};
@@ -31,25 +32,25 @@ pub struct Reach {
     pub quit: bool,
 }
 
-pub fn offer(s: Session, window: &mut [u8], piece: &[u8]) -> Offered
+pub fn offer(s: Session, window: &mut [u8], piece: &[u8]) -> OfferOutcome
     ensures { λ r. ⌜ r ≡ offered s (now (window .entry)) (now (piece .entry)) ⌝ }
     ensures { λ _. ⌜ now (window .exit) ≡ offeredWindow s (now (window .entry)) (now (piece .entry)) ⌝ }
 {
     let plan = decide(s, &window[..], piece);
     match plan {
-        Plan::Refuse(k) => Offered {
+        Plan::Refuse(k) => OfferOutcome {
             refusal: k,
             taken: 0,
             session: s,
         },
-        Plan::Nothing => Offered {
+        Plan::Nothing => OfferOutcome {
             refusal: 0,
             taken: 0,
             session: s,
         },
         Plan::Store(from, n, quit) => {
             let next = store(s, window, piece, from, n, quit);
-            Offered {
+            OfferOutcome {
                 refusal: 0,
                 taken: n,
                 session: next,
@@ -74,9 +75,11 @@ fn decide(s: Session, window: &[u8], piece: &[u8]) -> Plan
 fn is_idle(s: Session, piece: usize) -> bool
     ensures { λ r. ⌜ r ≡ idleAt s piece ⌝ }
 {
-    let input = s.input;
-    let going = s.going;
-    (piece == 0) | !held::is_open(input) | !held::is_on(going)
+    let walk = s.walk;
+    let p = s.places;
+    let input = p.input;
+    let going = walk.going;
+    (piece == 0) | !held::is_open(input) | !ahead::is_on(going)
 }
 
 // A piece with bytes while the input is open: what of it comes in behind the part that is held from a place on.
@@ -85,11 +88,11 @@ fn decide_from(s: Session, window: &[u8], piece: &[u8], from: usize) -> Plan
     requires { ⌜ idle s (now piece) ≡ false ⌝ }
     ensures { λ r. ⌜ r ≡ planned s (now (window .entry)) (now (piece .entry)) ⌝ }
 {
-    let c = s.settings;
+    let c = s.walk.settings;
     let binary = c.binary;
-    let free = s.window - (s.end - from);
+    let free = s.places.window - (s.places.end - from);
     let left = definition::MAX_INPUT - held::taken_bytes(s);
-    let reach = reaches(binary, piece, least(free, left as usize));
+    let reach = reaches(binary, piece, numbers::least(free, left as usize));
     if reach.quit & (reach.taken == 0) {
         return Plan::Store(from, 0, true);
     }
@@ -107,9 +110,9 @@ fn reaches(binary: Binary, piece: &[u8], room: usize) -> Reach
     requires { ⌜ room ≤ maxWindow ⌝ }
     ensures { λ r. ⌜ r ≡ reached binary (now (piece .entry)) room ⌝ }
 {
-    let seen = least(piece.len(), room + 1);
+    let seen = numbers::least(piece.len(), room + 1);
     let before = before_quit(binary, &piece[..seen]);
-    let taken = least(before, room);
+    let taken = numbers::least(before, room);
     Reach {
         taken: taken,
         quit: (taken == before) & (taken < piece.len()),
@@ -126,23 +129,17 @@ fn before_quit(binary: Binary, piece: &[u8]) -> usize
     }
 }
 
-fn least(a: usize, b: usize) -> usize
-    ensures { λ r. ⌜ r ≡ min a b ⌝ }
-{
-    if a < b { a } else { b }
-}
-
 // No room is left and no line waits. The window is looked at only where there is no room.
 fn is_stuck(s: Session, window: &[u8], free: usize) -> bool
-    requires { ⌜ (s .next ≤ s .end) × (s .end ≤ length (now window)) ⌝ }
+    requires { ⌜ (s .places .next ≤ s .places .end) × (s .places .end ≤ length (now window)) ⌝ }
     ensures { λ r. ⌜ r ≡ (not (waits s (now (window .entry))) && eqb free 0) ⌝ }
 {
     if 0 < free {
         return false;
     }
     match held::next_line(s, window) {
-        NextLine::Line(_) => false,
-        NextLine::NoLine => true,
+        LineAhead::Line(_) => false,
+        LineAhead::NoLine => true,
     }
 }
 
@@ -152,31 +149,29 @@ fn store(s: Session, window: &mut [u8], piece: &[u8], from: usize, n: usize, qui
     ensures { λ r. ⌜ r ≡ stored s (now (window .entry)) (now (piece .entry)) n quit ⌝ }
     ensures { λ _. ⌜ now (window .exit) ≡ storedWindow s (now (window .entry)) (now (piece .entry)) n ⌝ }
 {
-    let c = s.settings;
+    let walk = s.walk;
+    let c = walk.settings;
     let binary = c.binary;
-    let place = s.replaced;
-    let going = s.going;
-    let end = s.end;
+    let p = s.places;
+    let place = p.replaced;
+    let end = p.end;
     let part = &piece[..n];
     line_buffer::roll(window, from, end);
     line_buffer::take_in(window, end - from, part, binary, c.terminator);
     let taken = held::taken_bytes(s);
     let replaced = first_replaced(place, binary, c.terminator, taken, part);
     let input = input_after(quit);
-    Session {
-        settings: c,
-        window: s.window,
+    let places = Places {
+        window: p.window,
         floor: 0,
-        next: s.next - from,
+        next: p.next - from,
         end: end - from + n,
-        bytes: s.bytes,
-        lines: s.lines,
-        matches: s.matches,
-        left: s.left,
-        given: s.given,
-        going: going,
         input: input,
         replaced: replaced,
+    };
+    Session {
+        walk: walk,
+        places: places,
     }
 }
 

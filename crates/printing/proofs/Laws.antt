@@ -8,7 +8,7 @@ use lib.ListN.{length, drop, getD, length-append}
 use lib.Seq.{getD-drop}
 use Rattle.definition.specs.declared.Row.{Row}
 use Rattle.definition.specs.Rows.{rowSize}
-use Rattle.session.specs.Calls.{putRows}
+use Rattle.core.specs.Answer.{putRows}
 use Rattle.session.specs.Run.{rowsIn}
 use Rattle.session.proofs.Giving.{rowsIn-put}
 use Rattle.streams.specs.declared.Pending.{Pending}

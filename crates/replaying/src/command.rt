@@ -18,26 +18,24 @@
 // Words are separated by one space. Numbers are decimal without leading zeros and below 2 to the 64; those that say what
 // is lent or reached (N, FROM, TO, AT, W of lend) lie within the table or the room.
 use crate::words;
-use crate::words::Asked;
 use crate::words::Command;
-use definition::Binary;
+use forms::Asked;
 use forms::Decoded;
 use forms::Number;
 use searcher::Searcher;
 use session::Waiting;
 use streams::Pending;
-ghost use mathlib.Core.Path.{_≡_};
-ghost use Prim.Native.Nat.{_+_, _≤_, min};
+ghost use Prim.Native.Nat.{_+_, _≤_};
 ghost use Rattle.definition.specs.Rows.{rowSize};
 ghost use lib.ListN.{length};
 ghost use Rattle.io.specs.Counts.{Counts};
 
 // The longest answer is that of `window`, its word and two digits for each byte of the room; a line that says `bad line`
 // still fits behind it.
-const LONGEST_ANSWER: usize = 131_200;
+const LONGEST_ANSWER: usize = 2 * crate::ROOM + 126;
 
 // How the script stands.
-pub struct State {
+pub struct Script {
     pub searcher: Searcher,
     // how many bytes of the room are lent
     pub lent: usize,
@@ -48,8 +46,8 @@ pub struct State {
     pub pending: Pending,
 }
 
-pub fn start() -> State {
-    State {
+pub fn start() -> Script {
+    Script {
         searcher: Searcher::closed(),
         lent: 0,
         lines: 0,
@@ -60,13 +58,13 @@ pub fn start() -> State {
 
 // The command of a line.
 pub fn act(
-    state: State,
+    state: Script,
     line: &[u8],
     room: &mut [u8],
     table: &mut [u64],
     bytes: &mut [u8],
     out: &mut [u8],
-) -> State {
+) -> Script {
     let next = counted(state);
     match words::command_of(line) {
         Command::Open => open(next, line, room, out),
@@ -85,7 +83,7 @@ pub fn act(
 }
 
 // One line more; no script has so many that the count is full.
-pub fn counted(state: State) -> State {
+pub fn counted(state: Script) -> Script {
     let mut next = state;
     if state.lines < u64::MAX {
         next.lines = state.lines + 1;
@@ -94,7 +92,7 @@ pub fn counted(state: State) -> State {
 }
 
 // Writes what is collected where a command's answer might have no room behind it.
-pub fn with_room(state: State, out: &[u8]) -> State {
+pub fn with_room(state: Script, out: &[u8]) -> Script {
     let pending = state.pending;
     if LONGEST_ANSWER <= out.len() - within(pending.length, out) {
         return state;
@@ -103,7 +101,7 @@ pub fn with_room(state: State, out: &[u8]) -> State {
 }
 
 // Writes what is collected. Where that fails, or a text was lost, the script is over, so that the output has no hole.
-pub fn flushed(state: State, out: &[u8]) -> State {
+pub fn flushed(state: Script, out: &[u8]) -> Script {
     let pending = state.pending;
     let length = within(pending.length, out);
     let written = streams::write(&out[..length]);
@@ -112,19 +110,19 @@ pub fn flushed(state: State, out: &[u8]) -> State {
     next
 }
 
-pub fn failed(state: State, out: &mut [u8], reason: i32) -> State {
+pub fn failed(state: Script, out: &mut [u8], reason: i32) -> Script {
     let told = streams::tell_failed_read(out, state.pending, reason);
     flushed(with_pending(state, told), out)
 }
 
-pub fn bad(state: State, out: &mut [u8]) -> State {
+pub fn bad(state: Script, out: &mut [u8]) -> Script {
     let told = said_number(state, out, b"bad line ", state.lines);
     let mut next = ended_line(told, out);
     next.over = true;
     next
 }
 
-fn open(state: State, line: &[u8], room: &[u8], out: &mut [u8]) -> State {
+fn open(state: Script, line: &[u8], room: &[u8], out: &mut [u8]) -> Script {
     let Asked::For(settings) = words::settings_of(line) else {
         return bad(state, out);
     };
@@ -133,11 +131,11 @@ fn open(state: State, line: &[u8], room: &[u8], out: &mut [u8]) -> State {
     };
     let opened = Searcher::open(settings, length as usize);
     let mut next = with_searcher(state, opened.searcher);
-    next.lent = least(length as usize, room.len());
+    next.lent = numbers::least(length as usize, room.len());
     ended_line(said_number(next, out, b"open ", opened.refusal), out)
 }
 
-fn offer(state: State, line: &[u8], room: &mut [u8], bytes: &mut [u8], out: &mut [u8]) -> State {
+fn offer(state: Script, line: &[u8], room: &mut [u8], bytes: &mut [u8], out: &mut [u8]) -> Script {
     let Decoded::Bytes(count) = forms::hex(forms::word(line, 1), bytes) else {
         return bad(state, out);
     };
@@ -150,7 +148,7 @@ fn offer(state: State, line: &[u8], room: &mut [u8], bytes: &mut [u8], out: &mut
     ended_line(said_number(told, out, b" ", offered.taken as u64), out)
 }
 
-fn waiting(state: State, room: &[u8], out: &mut [u8]) -> State {
+fn waiting(state: Script, room: &[u8], out: &mut [u8]) -> Script {
     let s = state.searcher;
     let lent = within(state.lent, room);
     let told = match s.waiting(&room[..lent]) {
@@ -161,13 +159,13 @@ fn waiting(state: State, room: &[u8], out: &mut [u8]) -> State {
     ended_line(said_number(state, out, b"waiting ", told), out)
 }
 
-fn show_line(state: State, room: &[u8], out: &mut [u8]) -> State {
+fn show_line(state: Script, room: &[u8], out: &mut [u8]) -> Script {
     let s = state.searcher;
     let lent = within(state.lent, room);
     said_bytes(state, out, b"line ", s.line(&room[..lent]))
 }
 
-fn answer(state: State, line: &[u8], room: &[u8], table: &mut [u64], out: &mut [u8]) -> State {
+fn answer(state: Script, line: &[u8], room: &[u8], table: &mut [u64], out: &mut [u8]) -> Script {
     let hit = forms::number_at(line, 1);
     let Number::Value(size) = forms::number_at(line, 2) else {
         return bad(state, out);
@@ -188,8 +186,8 @@ fn answer(state: State, line: &[u8], room: &[u8], table: &mut [u64], out: &mut [
     ended_line(said_rows(counted, out, table, answered.rows), out)
 }
 
-fn said_rows(state: State, out: &mut [u8], table: &[u64], rows: usize) -> State {
-    let count = least(rows, table.len() / 4);
+fn said_rows(state: Script, out: &mut [u8], table: &[u64], rows: usize) -> Script {
+    let count = numbers::least(rows, table.len() / definition::ROW);
     let mut told = state;
     let mut i = 0;
     while i < count {
@@ -199,7 +197,7 @@ fn said_rows(state: State, out: &mut [u8], table: &[u64], rows: usize) -> State 
     told
 }
 
-fn said_row(state: State, out: &mut [u8], table: &[u64], at: usize) -> State
+fn said_row(state: Script, out: &mut [u8], table: &[u64], at: usize) -> Script
     requires { ⌜ at + rowSize ≤ length (now table) ⌝ }
 {
     said_four(
@@ -212,14 +210,14 @@ fn said_row(state: State, out: &mut [u8], table: &[u64], at: usize) -> State
     )
 }
 
-fn said_four(state: State, out: &mut [u8], a: u64, b: u64, c: u64, d: u64) -> State {
+fn said_four(state: Script, out: &mut [u8], a: u64, b: u64, c: u64, d: u64) -> Script {
     let first = said_number(state, out, b" ", a);
     let second = said_number(first, out, b",", b);
     let third = said_number(second, out, b",", c);
     said_number(third, out, b",", d)
 }
 
-fn show_table(state: State, line: &[u8], table: &[u64], out: &mut [u8]) -> State {
+fn show_table(state: Script, line: &[u8], table: &[u64], out: &mut [u8]) -> Script {
     let Number::Value(first) = forms::number_at(line, 1) else {
         return bad(state, out);
     };
@@ -240,7 +238,7 @@ fn show_table(state: State, line: &[u8], table: &[u64], out: &mut [u8]) -> State
     )
 }
 
-fn said_numbers(state: State, out: &mut [u8], numbers: &[u64]) -> State {
+fn said_numbers(state: Script, out: &mut [u8], numbers: &[u64]) -> Script {
     let mut told = state;
     let mut i = 0;
     while i < numbers.len() {
@@ -250,14 +248,14 @@ fn said_numbers(state: State, out: &mut [u8], numbers: &[u64]) -> State {
     told
 }
 
-fn end(state: State, out: &mut [u8]) -> State {
+fn end(state: Script, out: &mut [u8]) -> Script {
     let s = state.searcher;
     let ended = s.tell_end();
     let next = with_searcher(state, ended.searcher);
     ended_line(said_number(next, out, b"end ", ended.refusal), out)
 }
 
-fn record(state: State, out: &mut [u8]) -> State {
+fn record(state: Script, out: &mut [u8]) -> Script {
     let s = state.searcher;
     let recorded = s.end_record();
     let end = recorded.end;
@@ -274,12 +272,12 @@ fn record(state: State, out: &mut [u8]) -> State {
     ended_line(said_numbers(told, out, &numbers), out)
 }
 
-fn show_window(state: State, room: &[u8], out: &mut [u8]) -> State {
+fn show_window(state: Script, room: &[u8], out: &mut [u8]) -> Script {
     let lent = within(state.lent, room);
     said_bytes(state, out, b"window ", &room[..lent])
 }
 
-fn poke(state: State, line: &[u8], room: &mut [u8], bytes: &mut [u8], out: &mut [u8]) -> State {
+fn poke(state: Script, line: &[u8], room: &mut [u8], bytes: &mut [u8], out: &mut [u8]) -> Script {
     let Number::Value(place) = forms::number_at(line, 1) else {
         return bad(state, out);
     };
@@ -294,11 +292,11 @@ fn poke(state: State, line: &[u8], room: &mut [u8], bytes: &mut [u8], out: &mut 
         return bad(state, out);
     }
     let size = within(count, bytes);
-    line_buffer::take_in(room, at, &bytes[..size], Binary::Ignore, 0);
+    bytes::copy(&bytes[..size], &mut room[at..]);
     ended_line(said(state, out, b"poke"), out)
 }
 
-fn lend(state: State, line: &[u8], room: &[u8], out: &mut [u8]) -> State {
+fn lend(state: Script, line: &[u8], room: &[u8], out: &mut [u8]) -> Script {
     let Number::Value(length) = forms::number_at(line, 1) else {
         return bad(state, out);
     };
@@ -311,33 +309,33 @@ fn lend(state: State, line: &[u8], room: &[u8], out: &mut [u8]) -> State {
     ended_line(said(next, out, b"lend"), out)
 }
 
-fn with_searcher(state: State, searcher: Searcher) -> State {
+fn with_searcher(state: Script, searcher: Searcher) -> Script {
     let mut next = state;
     next.searcher = searcher;
     next
 }
 
-fn with_pending(state: State, pending: Pending) -> State {
+fn with_pending(state: Script, pending: Pending) -> Script {
     let mut next = state;
     next.pending = pending;
     next
 }
 
-fn said(state: State, out: &mut [u8], text: &[u8]) -> State {
+fn said(state: Script, out: &mut [u8], text: &[u8]) -> Script {
     with_pending(state, streams::put(out, state.pending, text))
 }
 
-fn said_number(state: State, out: &mut [u8], text: &[u8], number: u64) -> State {
+fn said_number(state: Script, out: &mut [u8], text: &[u8], number: u64) -> Script {
     let told = streams::put(out, state.pending, text);
     with_pending(state, streams::put_number(out, told, number))
 }
 
-fn said_bytes(state: State, out: &mut [u8], text: &[u8], bytes: &[u8]) -> State {
+fn said_bytes(state: Script, out: &mut [u8], text: &[u8], bytes: &[u8]) -> Script {
     let told = streams::put(out, state.pending, text);
     ended_line(with_pending(state, streams::put_hex(out, told, bytes)), out)
 }
 
-fn ended_line(state: State, out: &mut [u8]) -> State {
+fn ended_line(state: Script, out: &mut [u8]) -> Script {
     said(state, out, b"\n")
 }
 
@@ -346,11 +344,5 @@ fn within(n: usize, bytes: &[u8]) -> usize
     ensures { λ r. ⌜ Counts r (now (bytes .entry)) ⌝ }
     ensures { λ r. ⌜ r ≤ n ⌝ }
 {
-    least(n, bytes.len())
-}
-
-fn least(a: usize, b: usize) -> usize
-    ensures { λ r. ⌜ r ≡ min a b ⌝ }
-{
-    if a < b { a } else { b }
+    numbers::least(n, bytes.len())
 }

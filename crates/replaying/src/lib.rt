@@ -6,32 +6,41 @@
 mod command;
 mod words;
 
-use command::State;
+use command::Script;
 use lines::Found;
 use streams::Moved;
 ghost use Prim.Native.Nat.{_≤_};
 ghost use lib.ListN.{length};
 
-// The longest line that can be a command: an offer or a poke of 4,096 bytes.
-const LONGEST: usize = 8_210;
+// The room that is lent from: one byte more than a window may have.
+const ROOM: usize = definition::MAX_WINDOW + 1;
+
+// Two rows more than an answer gives, which is at most so many before, a break and a match.
+const TABLE: usize = definition::ROW * (definition::MAX_CONTEXT + 4);
+
+// The longest piece that a command writes.
+const PIECE: usize = 4_096;
+
+// The longest line that can be a command: an offer or a poke of a whole piece, its words and two digits a byte.
+const LONGEST: usize = 2 * PIECE + 18;
 
 // The state, how many bytes of a line that is not yet whole wait at the input's front, and whether all is written.
-struct Turn {
-    state: State,
+struct Progress {
+    state: Script,
     held: usize,
     done: bool,
 }
 
 // The state, and where in the input the first line stands that is not yet whole.
 pub struct Acted {
-    pub state: State,
+    pub state: Script,
     pub from: usize,
 }
 
 pub fn play() {
-    let mut room = [0u8; 65_537];
-    let mut table = [9u64; 4_016];
-    let mut bytes = [0u8; 4_096];
+    let mut room = [0u8; ROOM];
+    let mut table = [9u64; TABLE];
+    let mut bytes = [0u8; PIECE];
     let mut input = [0u8; 65_536];
     let mut out = [0u8; 262_144];
     run(&mut room, &mut table, &mut bytes, &mut input, &mut out);
@@ -39,7 +48,7 @@ pub fn play() {
 
 // Turns are a bound for the proof: nothing lasts so long.
 fn run(room: &mut [u8], table: &mut [u64], bytes: &mut [u8], input: &mut [u8], out: &mut [u8]) {
-    let mut now = Turn {
+    let mut now = Progress {
         state: command::start(),
         held: 0,
         done: false,
@@ -56,13 +65,13 @@ fn run(room: &mut [u8], table: &mut [u64], bytes: &mut [u8], input: &mut [u8], o
 
 // Writes what is collected, then reads once and acts on what came. Where a signal came first, the next turn reads again.
 fn step(
-    now: Turn,
+    now: Progress,
     room: &mut [u8],
     table: &mut [u64],
     bytes: &mut [u8],
     input: &mut [u8],
     out: &mut [u8],
-) -> Turn {
+) -> Progress {
     let state = command::flushed(now.state, out);
     let held = now.held;
     if state.over {
@@ -80,16 +89,16 @@ fn step(
 }
 
 // The next turn reads behind the bytes that wait.
-fn to_read_on(state: State, held: usize) -> Turn {
-    Turn {
+fn to_read_on(state: Script, held: usize) -> Progress {
+    Progress {
         state: state,
         held: held,
         done: false,
     }
 }
 
-fn done(state: State) -> Turn {
-    Turn {
+fn done(state: Script) -> Progress {
+    Progress {
         state: state,
         held: 0,
         done: true,
@@ -98,14 +107,14 @@ fn done(state: State) -> Turn {
 
 // Acts on the lines that are whole and moves the rest of the input to its front.
 fn more(
-    state: State,
+    state: Script,
     room: &mut [u8],
     table: &mut [u64],
     bytes: &mut [u8],
     input: &mut [u8],
     to: usize,
     out: &mut [u8],
-) -> Turn
+) -> Progress
     requires { ⌜ to ≤ length (now input) ⌝ }
 {
     let acted = act_on_lines(state, room, table, bytes, &input[..to], out);
@@ -116,7 +125,7 @@ fn more(
 }
 
 // A line that is too long is bad before its end has come.
-fn bounded(state: State, rest: usize, out: &mut [u8]) -> State {
+fn bounded(state: Script, rest: usize, out: &mut [u8]) -> Script {
     if state.over | (rest <= LONGEST) {
         return state;
     }
@@ -124,7 +133,7 @@ fn bounded(state: State, rest: usize, out: &mut [u8]) -> State {
 }
 
 fn act_on_lines(
-    state: State,
+    state: Script,
     room: &mut [u8],
     table: &mut [u64],
     bytes: &mut [u8],
@@ -165,13 +174,13 @@ fn act_on_lines(
 
 // A last line needs no newline.
 fn last(
-    state: State,
+    state: Script,
     room: &mut [u8],
     table: &mut [u64],
     bytes: &mut [u8],
     line: &[u8],
     out: &mut [u8],
-) -> State {
+) -> Script {
     if line.len() == 0 {
         return state;
     }

@@ -1,6 +1,7 @@
 // A command's words: which command it is, and the settings of an opening.
 use definition::Binary;
 use definition::Settings;
+use forms::Asked;
 use forms::Bound;
 use forms::Number;
 
@@ -17,11 +18,6 @@ pub enum Command {
     Poke,
     Lend,
     Unknown,
-}
-
-pub enum Asked {
-    For(Settings),
-    Other,
 }
 
 enum Marks {
@@ -117,14 +113,15 @@ pub fn settings_of(line: &[u8]) -> Asked {
         & forms::is_within(terminator, 255);
     let flags = is_flag(invert) & is_flag(pass) & is_flag(stop);
     if !(numbers & flags) {
-        return Asked::Other;
+        return Asked::OtherForm;
     }
     let Bound::Is(limit) = forms::limit(forms::word(line, 6)) else {
-        return Asked::Other;
+        return Asked::OtherForm;
     };
     let Marks::Are(binary) = binary_of(forms::word(line, 8)) else {
-        return Asked::Other;
+        return Asked::OtherForm;
     };
+    let plain = Settings::plain(byte(terminator));
     Asked::For(Settings {
         before: forms::value(before) as usize,
         after: forms::value(after) as usize,
@@ -132,8 +129,8 @@ pub fn settings_of(line: &[u8]) -> Asked {
         passthru: forms::value(pass) == 1,
         stop: forms::value(stop) == 1,
         limit: limit,
-        terminator: byte(terminator),
         binary: binary,
+        ..plain
     })
 }
 

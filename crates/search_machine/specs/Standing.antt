@@ -10,7 +10,7 @@ use Rattle.machine.specs.Machine.{Closes, Leads, Turn, ended, ends, failed, goe
 use Rattle.machine.specs.Program.{tableSize}
 use Rattle.searcher.specs.declared.Searcher.{Searcher}
 use Rattle.searcher.specs.Door.{searcher}
-use Rattle.session.specs.declared.Opened.{Opened}
+use Rattle.session.specs.declared.OpenOutcome.{OpenOutcome}
 use Rattle.session.specs.Sound.{closed}
 use Rattle.streams.specs.declared.Moved.{Moved}
 use Rattle.streams.specs.declared.Moved.the-variants.{Bytes, Nothing, Interrupted, Failed}
@@ -203,7 +203,7 @@ pub record Turned (st : State) (r : Search) (window literal input out : List ℕ
   pub collects : Collects r out
 
 -- an opening was served or refused, and the second line starts at a place of the input
-pub data OpenedTo (s : Search) (o : Opened) (from : ℕ) (out : List ℕ) (r : Search) (after : List ℕ) : Type 0 where
+pub data OpenedTo (s : Search) (o : OpenOutcome) (from : ℕ) (out : List ℕ) (r : Search) (after : List ℕ) : Type 0 where
   served : o .refusal ≡ 0 → r ≡ openedWith s (searcher (o .session)) from → after ≡ out → OpenedTo s o from out r after
   refused : (p : Pending) → (o .refusal ≡ 0 → ⊥) → r ≡ overWith s p → Tells (s .pending) out (refusedText (o .refusal)) p after
       → OpenedTo s o from out r after

@@ -4,10 +4,12 @@ use Prim.Native.Nat.{ℕ}
 use mathlib.Core.Bool.{Bool}
 use mathlib.Core.List.{List}
 use mathlib.Core.Path.{_≡_}
+use lib.ListN.{length}
 use Rattle.definition.specs.declared.Settings.{Settings}
 use Rattle.session.specs.declared.Recorded.{Recorded}
 use Rattle.session.specs.declared.Waiting.{Waiting}
-use Rattle.session.specs.Calls.{answered, answeredTable, offered, offeredWindow, opened, recorded, shownLine, told, waiting}
+use Rattle.session.specs.Calls.{answered, answeredTable, offered, offeredWindow, opened, recorded, shownFrom, shownLine, told, waiting}
+use Rattle.session.specs.Place.{placeIn}
 use Rattle.session.specs.Sound.{closed}
 use Rattle.searcher.specs.declared.Answered.{Answered}
 use Rattle.searcher.specs.declared.Offered.{Offered}
@@ -30,9 +32,10 @@ Offers self w piece r after =
 abbrev pub Waits : Searcher → List ℕ → Waiting → Type 0
 Waits self w r = r ≡ waiting (self .session) w
 
--- the bytes of the part shown
-abbrev pub Shows : Searcher → List ℕ → List ℕ → Type 0
-Shows self w r = r ≡ shownLine (self .session) w
+-- the window's bytes and where it lies, then the bytes of the part shown and where that lies
+abbrev pub Shows : Searcher → List ℕ → ℕ × ℕ → List ℕ → ℕ × ℕ → Type 0
+Shows self w at r place =
+    (r ≡ shownLine (self .session) w) × (place ≡ placeIn at (shownFrom (self .session) (length w)))
 
 -- window, the table as it came, yes or no, the answer, the table as it went
 abbrev pub Answers : Searcher → List ℕ → List ℕ → Bool → Answered → List ℕ → Type 0
@@ -52,7 +55,8 @@ pub record OneOutcome : Type 0 where
   pub offer :
       (self : Searcher) (w piece : List ℕ) (r q : Offered) (v u : List ℕ) → Offers self w piece r v → Offers self w piece q u → (r ≡ q) × (v ≡ u)
   pub waiting : (self : Searcher) (w : List ℕ) (r q : Waiting) → Waits self w r → Waits self w q → r ≡ q
-  pub line : (self : Searcher) (w r q : List ℕ) → Shows self w r → Shows self w q → r ≡ q
+  pub line :
+      (self : Searcher) (w : List ℕ) (at : ℕ × ℕ) (r q : List ℕ) (n m : ℕ × ℕ) → Shows self w at r n → Shows self w at q m → (r ≡ q) × (n ≡ m)
   pub answer :
       (self : Searcher) (w table : List ℕ) (hit : Bool) (r q : Answered) (v u : List ℕ)
       → Answers self w table hit r v

@@ -1,7 +1,6 @@
 // The public door: a searcher is a small value that each call takes and hands back. It is opened, offered pieces, asked
 // for the waiting line, answered, told of the end, and asked for the end record. Each call serves any arguments whatever.
 use definition::Settings;
-use held::NextLine;
 use session::Recorded;
 use session::Session;
 use session::Waiting;
@@ -77,32 +76,15 @@ impl Searcher {
         ensures { λ r. ⌜ Waits self (now (window .entry)) r ⌝ }
     {
         let s = self.session;
-        if !held::is_sound(s, window.len()) {
-            return Waiting::WaitingRefused;
-        }
-        match held::next_line(s, window) {
-            NextLine::Line(_) => Waiting::LineWaits,
-            NextLine::NoLine => Waiting::NoneWaits,
-        }
+        asking::waiting(s, window)
     }
 
     // Shows the waiting line, without its terminator, as a part of the window itself; empty where none waits.
     pub fn line(self, window: &[u8]) -> &[u8]
-        ensures { λ r. ⌜ Shows self (now (window .entry)) (now r) ⌝ }
+        ensures { λ r. ⌜ Shows self (now (window .entry)) (window .entry .ptr) (now r) (r .ptr) ⌝ }
     {
         let s = self.session;
-        if !held::is_sound(s, window.len()) {
-            return &window[..0];
-        }
-        match held::next_line(s, window) {
-            NextLine::Line(length) => {
-                let next = s.next;
-                let end = next + length;
-                let c = s.settings;
-                lines::without_terminator(&window[next..end], c.terminator)
-            }
-            NextLine::NoLine => &window[..0],
-        }
+        asking::line(s, window)
     }
 
     // Answers the waiting line: its rows go into the table from its front; refusals 4 and 6.

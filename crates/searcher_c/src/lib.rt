@@ -1,7 +1,5 @@
 // The driver's loop for programs in C and Rust: a text in memory is offered piece by piece and searched for a literal. The
 // rows are summed up and not handed over, so that a caller can time the loop alone, as bench/run does.
-use definition::Binary;
-use definition::Limit;
 use definition::Settings;
 use driving::Fed;
 use machine::Next;
@@ -37,15 +35,12 @@ pub extern "C" fn searcher_search(
     table: &mut [u64],
     told: &mut [u64; 7],
 ) {
+    let plain = Settings::plain(b'\n');
     let settings = Settings {
         before: before,
         after: after,
         invert: invert,
-        passthru: false,
-        stop: false,
-        limit: Limit::Unlimited,
-        terminator: b'\n',
-        binary: Binary::Ignore,
+        ..plain
     };
     let opened = Searcher::open(settings, window.len());
     let searched = search_text(opened.searcher, text, piece, literal, window, table);

@@ -7,7 +7,7 @@ use lib.ListN.{length, take}
 use Rattle.definition.specs.Text.{part}
 use Rattle.streams.specs.declared.Moved.{Moved}
 use Rattle.streams.specs.declared.Moved.the-variants.{Bytes, Nothing, Interrupted, Failed}
-use Rattle.streams.specs.Moves.{Within}
+use Rattle.streams.specs.Moves.{MovedWithin}
 use Rattle.search_machine.specs.declared.Phase.{Phase}
 use Rattle.search_machine.specs.declared.Phase.the-variants.{Wants}
 use Rattle.search_machine.specs.declared.Search.{Search}
@@ -51,14 +51,14 @@ read-in {s} {r} {got} {window} {literal} {input} {after} behind rests e h =
     record { got = got; stands = same-state (s .stage) (take (s .size) literal) refl refl left; heard = h }
 
 -- what a read moved into the room behind a place fits
-moved-fits : (got : Moved) (to : ℕ) (input lent : List ℕ) → to + length lent ≤ length input → Within got lent → Fits got to input
+moved-fits : (got : Moved) (to : ℕ) (input lent : List ℕ) → to + length lent ≤ length input → MovedWithin got lent → Fits got to input
 moved-fits (Bytes n) to input lent h w = omega (arith, w)
 moved-fits Nothing to input lent h w = tt
 moved-fits Interrupted to input lent h w = tt
 moved-fits (Failed e) to input lent h w = tt
 
 pub rests-hearing : {s : Search} {got : Moved} {input after out : List ℕ} (lent : List ℕ) → Rests s input → s .phase ≡ Wants
-    → length after ≡ length input → s .to + length lent ≤ length input → Within got lent → lineMost ≤ length out → Hearing s got after out
+    → length after ≡ length input → s .to + length lent ≤ length input → MovedWithin got lent → lineMost ≤ length out → Hearing s got after out
 rests-hearing {s} {got} {input} {after} lent r e i h w o =
     let room : HasRoom Wants (s .to) input = subst (λ phase. HasRoom phase (s .to) input) e (r .room) in
     record {

@@ -18,11 +18,13 @@ ghost use Rattle.search_machine.specs.Search.{starts};
 ghost use Rattle.search_machine.specs.Standing.{Collects, Heard, Hearing, Lent, Ready, Rests, Stepped, Turned, begins, seen, withMore, writtenOut};
 ghost use Rattle.printing.specs.Texts.{lineMost};
 
+// The rows of an answer: at most so many before, a break and a match.
+const TABLE: usize = definition::ROW * (definition::MAX_CONTEXT + 2);
+
 pub fn run() {
     let mut window = [0u8; 4_096];
-    // room for the rows of an answer: at most 1,000 before, a break and a match
-    let mut table = [0u64; 4_008];
-    let mut literal = [0u8; 1_024];
+    let mut table = [0u64; TABLE];
+    let mut literal = [0u8; heading::LONGEST];
     let mut input = [0u8; 65_536];
     // room for what one turn prints, several times
     let mut out = [0u8; 262_144];

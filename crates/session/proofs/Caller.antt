@@ -6,9 +6,9 @@ use mathlib.Core.List.{List, [], _∷_, _++_, flatten, map}
 use mathlib.Core.Logic.{_⊎_, inl, inr, ⊎-elim, _↔_}
 use native.Mathlib.Decide.{decLe, decLt}
 use native.Mathlib.Omega.{arith}
-use lib.Dec.{ltb, leb}
+use lib.Dec.{eqb, leb, ltb}
 use lib.ListN.{length, take, drop, length-append, length-drop, length-take}
-use lib.Seq.{drop-at}
+use lib.Seq.{drop-at, take-take}
 use borrow.Author.Tests.{le-leb, leb-true, le-ltb, lt-leb, lt-ltb, ltb-true, ne-eqb}
 use Rattle.definition.specs.declared.Row.{Row}
 use Rattle.definition.specs.declared.Going.{Going}
@@ -17,23 +17,21 @@ use Rattle.definition.specs.declared.Settings.{Settings}
 use Rattle.definition.specs.Bounds.{allowed, contextual, maxInput, maxWindow}
 use Rattle.definition.specs.Rows.{flat, rowSize}
 use Rattle.definition.specs.State.{stateNext}
-use Rattle.definition.specs.Text.{firstLength, firstPlace, lines}
+use Rattle.definition.specs.Text.{firstLength, firstPlace, handed, lines, part, upTo}
 use Rattle.definition.proofs.Terminator.{line-ends, lines-head, lines-rest, lines-whole}
-use Rattle.session.specs.declared.Answering.{Answering}
-use Rattle.session.specs.declared.Answering.the-variants.{AnswerRefused, Give}
+use Rattle.core.specs.Answer.{AnswerDecision, AnswerRefused, Give, answeringSince, putRows, stateSince, walkNext}
+use Rattle.core.specs.Walk.{isOn, shownAhead, waitsAhead}
 use Rattle.session.specs.declared.Input.{Input}
 use Rattle.session.specs.declared.Input.the-variants.{Open, Ended, QuitFound}
-use Rattle.session.specs.declared.Offering.{Offering}
-use Rattle.session.specs.declared.Offering.the-variants.{OfferRefused, Idle, Take}
 use Rattle.session.specs.declared.Session.{Session}
 use Rattle.session.specs.declared.Waiting.{Waiting}
 use Rattle.session.specs.declared.Waiting.the-variants.{LineWaits, NoneWaits, WaitingRefused}
-use Rattle.session.specs.Calls.{answerAnswer, answerRows, answerSession, answerTable, answered, answeredTable, answering, beforeQuit, belowOne, idle, inputTold, offerAnswer, offerWindow, offered, offeredWindow, offering, opened, opening, putRows, quitFront, recorded, recording, remains, shownLine, shownWhere, stepped, stored, taking, told, toldSession, waiting, waitingRefusal}
-use Rattle.session.specs.Caller.{waitingIn, unfinishedIn, waitingBytes, unfinishedBytes, wholeBytes, loneBytes, Reached, opens, offers, answers, tells, Agreeing, Answers, Balance, NothingTwice, Offers, OfferServed, Others, Progress, RefusalsChangeNothing, RowsStay, WhenAndOnlyThen, WindowStays}
-use Rattle.session.specs.Held.{heldBytes, isOn, isOpen, keptFrom, lineBytes, shown, unanswered, waits}
-use Rattle.session.specs.Sound.{Agree, agrees, closed, sound, takenBytes, tests}
+use Rattle.session.specs.Calls.{Idle, OfferDecision, OfferRefused, Take, answerAnswer, answerRows, answerSession, answerTable, answered, answeredTable, answering, beforeQuit, belowOne, idle, inputTold, offerAnswer, offerWindow, offered, offeredWindow, offering, opened, opening, placesNext, quitFront, recorded, recording, remains, shownFrom, shownLine, stored, taking, told, toldSession, waiting, waitingRefusal, withInput}
+use Rattle.session.specs.Caller.{Agreeing, Answers, Balance, NothingTwice, OfferServed, Offers, Others, Progress, Reached, RefusalsChangeNothing, RowsStay, ShownThere, WhenAndOnlyThen, WindowStays, answers, loneBytes, offers, opens, tells, unfinishedBytes, unfinishedIn, waitingBytes, waitingIn, wholeBytes}
+use Rattle.session.specs.Held.{heldBytes, isOpen, keptFrom, shown, sinceLines, unanswered, waits}
+use Rattle.session.specs.Sound.{Agree, agrees, closed, placesAgree, placesTests, sound, takenBytes}
 use Rattle.session.proofs.Agree.{agrees-of}
-use Rattle.session.proofs.Carry.{busy, fitting-some, front-quits, not-front}
+use Rattle.session.proofs.Carry.{busy, fitting-some, front-quits, is-open, not-front, not-idle}
 use Rattle.session.proofs.Cases.{OfferCase, unsound, idling, quits, sized, full, takes, offer-case, offer-only, answer-only, AnswerCase, few, gives, none, below, answer-case}
 use Rattle.session.proofs.Cases as Cases
 use Rattle.session.proofs.History.{answer-unchanged, answerRows-most}
@@ -54,7 +52,7 @@ agreeing n s r = agrees-of s (reached-agree n s r)
 
 -- # Refusals change nothing
 
-offer-unchanged : (o : Offering) (s : Session) (w piece : List ℕ) → (offerAnswer o s w piece .refusal ≡ 0 → ⊥)
+pub offer-unchanged : (o : OfferDecision) (s : Session) (w piece : List ℕ) → (offerAnswer o s w piece .refusal ≡ 0 → ⊥)
     → (offerAnswer o s w piece .session ≡ s) × (offerAnswer o s w piece .taken ≡ 0) × (offerWindow o s w piece ≡ w)
 offer-unchanged (OfferRefused k) s w piece h = (refl, refl, refl)
 offer-unchanged Idle s w piece h = (refl, refl, refl)
@@ -64,24 +62,24 @@ tell-unchanged : (b : Bool) (s : Session) → (_≡_ {A = ℕ} (cond b 0 6) 0 �
 tell-unchanged true s h = absurd (h refl)
 tell-unchanged false s h = refl
 
-part-unshown : (k : Waiting) (s : Session) (w : List ℕ) → (k ≡ LineWaits → ⊥) → shownWhere k s w ≡ []
-part-unshown LineWaits s w h = absurd (h refl)
-part-unshown NoneWaits s w h = refl
-part-unshown WaitingRefused s w h = refl
+part-unshown : (b v : Bool) (line : List ℕ) → (cond b (cond v LineWaits NoneWaits) WaitingRefused ≡ LineWaits → ⊥) → cond b (cond v line []) [] ≡ []
+part-unshown true true line h = absurd (h refl)
+part-unshown true false line h = refl
+part-unshown false v line h = refl
 
 closed-unsound : (n : ℕ) → sound closed n ≡ false
-unfolding sound agrees tests allowed contextual
+unfolding sound agrees placesAgree placesTests
 closed-unsound n = refl
 
 pub refusals-change-nothing : RefusalsChangeNothing
-unfolding offered offeredWindow offering answered answeredTable answering told recorded recording shownLine opened waiting agrees tests allowed contextual
+unfolding offered offeredWindow offering answered answeredTable answering told recorded recording shownLine shownAhead waits opened waiting agrees placesAgree placesTests
 refusals-change-nothing s w piece table hit c window =
     record {
       offer = offer-unchanged (offering s w piece) s w piece;
       answer = answer-unchanged (answering s w (length table) hit) s w table hit;
       tell = tell-unchanged (agrees s) s;
       record-zeros = λ h. rw (ne-eqb (recording s) 0 h);
-      part-empty = part-unshown (waiting s w) s w;
+      part-empty = part-unshown (sound s (length w)) (waits s w) _;
       opening-closed = λ h. rw (ne-eqb (opening c window) 0 h);
       closed-6 =
           (rw (closed-unsound (length w)), rw (closed-unsound (length w)), rw (closed-unsound (length w)), refl, refl);
@@ -94,7 +92,7 @@ offer-back-0 : (s : Session) (w piece : List ℕ) → OfferServed s w piece → 
 unfolding offered taking
 offer-back-0 s w piece h = go (offering s w piece) (offer-case s w piece)
   where
-    go : (o : Offering) → OfferCase s w piece o → offerAnswer o s w piece .refusal ≡ 0
+    go : (o : OfferDecision) → OfferCase s w piece o → offerAnswer o s w piece .refusal ≡ 0
     go _ (unsound e) = absurd (true≢false (sym (h .0) ∙ e))
     go _ (idling e d) = refl
     go _ (quits e d q) = refl
@@ -116,12 +114,12 @@ offers-when s w piece =
       five = (only .1, λ h. rw (h .0 .0, h .0 .1, h .0 .2, le-leb maxInput (takenBytes s) (h .1)));
       three = (
         only .2,
-        λ h. rw (h .0 .0, h .0 .1, h .0 .2, lt-leb maxInput (takenBytes s) (h .1), h .2, le-leb (s .window) (heldBytes s w) (h .3)),
+        λ h. rw (h .0 .0, h .0 .1, h .0 .2, lt-leb maxInput (takenBytes s) (h .1), h .2, le-leb (s .places .window) (heldBytes s w) (h .3)),
       );
       zero = (only .3, offer-back-0 s w piece);
     }
 
-answer-back-6 : (s : Session) (w : List ℕ) (table : ℕ) (hit : Bool) (o : Answering) → AnswerCase s w table hit o
+answer-back-6 : (s : Session) (w : List ℕ) (table : ℕ) (hit : Bool) (o : AnswerDecision) → AnswerCase s w table hit o
     → (sound s (length w) ≡ false) ⊎ ((waits s w ≡ false) ⊎ (belowOne s w hit ≡ true)) → answerAnswer o s w hit .refusal ≡ 6
 answer-back-6 s w table hit _ (Cases.unsound e) h = refl
 answer-back-6 s w table hit _ (none e v) h = refl
@@ -132,7 +130,7 @@ answer-back-6 s w table hit _ (gives e v b m) h =
     absurd (⊎-elim (λ k. true≢false (sym e ∙ k)) (λ t. ⊎-elim (λ k. true≢false (sym v ∙ k)) (λ k. true≢false (sym k ∙ b)) t) h)
 
 answers-when : (s : Session) (w table : List ℕ) (hit : Bool) → Answers s w table hit
-unfolding answered answering
+unfolding answered answering answeringSince belowOne answerRows
 answers-when s w table hit =
     let case = answer-case s w (length table) hit in
     let only = answer-only s w (length table) hit _ case in
@@ -222,9 +220,9 @@ when-and-only-then s w piece table hit c window = (offers-when s w piece, answer
 
 -- # What a served call does
 
-progress-case : (s : Session) (w piece : List ℕ) (o : Offering) → OfferCase s w piece o → waits s w ≡ false → s .input ≡ Open → s .going ≡ On → 0 < length piece
+progress-case : (s : Session) (w piece : List ℕ) (o : OfferDecision) → OfferCase s w piece o → waits s w ≡ false → s .places .input ≡ Open → s .walk .going ≡ On → 0 < length piece
     → (0 < offerAnswer o s w piece .taken)
-    ⊎ ((offerAnswer o s w piece .session .input ≡ QuitFound) ⊎ (offerAnswer o s w piece .refusal ≡ 0 → ⊥))
+    ⊎ ((offerAnswer o s w piece .session .places .input ≡ QuitFound) ⊎ (offerAnswer o s w piece .refusal ≡ 0 → ⊥))
 unfolding taking stored
 progress-case s w piece _ (unsound e) v n g h = inr (inr (λ z. omega (arith, z)))
 progress-case s w piece _ (idling e d) v n g h = absurd (true≢false (sym d ∙ busy s piece h n g))
@@ -232,7 +230,7 @@ progress-case s w piece _ (quits e d q) v n g h = inr (inl (ap (λ b. cond b Qui
 progress-case s w piece _ (sized p m) v n g h = inr (inr (λ z. omega (arith, z)))
 progress-case s w piece _ (full p m u f) v n g h = inr (inr (λ z. omega (arith, z)))
 progress-case s w piece _ (takes p m r) v n g h =
-    let room : heldBytes s w < s .window = ⊎-elim (λ t. absurd (true≢false (sym t ∙ v))) (λ t. t) r in
+    let room : heldBytes s w < s .places .window = ⊎-elim (λ t. absurd (true≢false (sym t ∙ v))) (λ t. t) r in
     inl (fitting-some s w piece (not-front (beforeQuit s piece) (length piece) h (unfold quitFront in p .2)) room m)
 
 pub progress : Progress
@@ -244,8 +242,8 @@ unfolding flatten
 flat-length [] = refl
 flat-length (r ∷ rs) = omega (arith, flat-length rs)
 
-rows-stay-of : (s : Session) (w table : List ℕ) (hit : Bool) (o : Answering) → GivenIf s w (length table) hit o
-    → (answerAnswer o s w hit .rows ≤ s .settings .before + 2)
+rows-stay-of : (s : Session) (w table : List ℕ) (hit : Bool) (o : AnswerDecision) → GivenIf s w (length table) hit o
+    → (answerAnswer o s w hit .rows ≤ s .walk .settings .before + 2)
     × (length (answerTable o s w table hit) ≡ length table)
     × (drop (rowSize * answerAnswer o s w hit .rows) (answerTable o s w table hit) ≡ drop (rowSize * answerAnswer o s w hit .rows) table)
 unfolding putRows
@@ -263,9 +261,9 @@ pub rows-stay : RowsStay
 unfolding answered answeredTable
 rows-stay s w table hit = rows-stay-of s w table hit (answering s w (length table) hit) (answer-given s w (length table) hit)
 
-window-stays-of : (s : Session) (w piece : List ℕ) (o : Offering) → TakenIf s w piece o
+window-stays-of : (s : Session) (w piece : List ℕ) (o : OfferDecision) → TakenIf s w piece o
     → (length (offerWindow o s w piece) ≡ length w)
-    × (drop (offerAnswer o s w piece .session .end) (offerWindow o s w piece) ≡ drop (offerAnswer o s w piece .session .end) w)
+    × (drop (offerAnswer o s w piece .session .places .end) (offerWindow o s w piece) ≡ drop (offerAnswer o s w piece .session .places .end) w)
 unfolding stored
 window-stays-of s w piece (OfferRefused k) t = (refl, refl)
 window-stays-of s w piece Idle t = (refl, refl)
@@ -275,6 +273,52 @@ window-stays-of s w piece (Take n quit) t =
 pub window-stays : WindowStays
 unfolding offered offeredWindow
 window-stays s w piece = window-stays-of s w piece (offering s w piece) (offer-taken s w piece)
+
+-- # The part shown
+
+-- the bytes before the first terminator are a front
+up-front : (t : ℕ) (xs : List ℕ) → upTo t xs ≡ take (length (upTo t xs)) xs
+unfolding upTo
+up-front t [] = refl
+up-front t (x ∷ xs) = go (eqb x t) (up-front t xs)
+  where
+    go : (b : Bool) → upTo t xs ≡ take (length (upTo t xs)) xs → cond b [] (x ∷ upTo t xs) ≡ take (length (cond b [] (x ∷ upTo t xs))) (x ∷ xs)
+    go true h = refl
+    go false h = ap (λ ys. x ∷ ys) h
+
+-- of a front of a front
+front-there : (t l j : ℕ) (xs : List ℕ) → let shown = upTo t (take l (take j xs)) in shown ≡ take (length shown) xs
+front-there t l j xs =
+    let ys = take l (take j xs) in
+    let k = length (upTo t ys) in
+    let inside : k ≤ length ys = first-length t ys in
+    let size = length-take l (take j xs) in
+    up-front t ys ∙ take-take k l (take j xs) (omega (arith, inside, size)) ∙ take-take k j xs (omega (arith, inside, size, length-take j xs))
+  where
+    first-length : (t : ℕ) (xs : List ℕ) → length (upTo t xs) ≤ length xs
+    first-length t xs = omega (arith, ap length (up-front t xs), length-take (length (upTo t xs)) xs)
+
+part-there : (from n : ℕ) (w : List ℕ) → take n (drop from w) ≡ part from (from + n) w
+part-there from n w =
+    let e : from + n - from ≡ n = omega arith in
+    rw e
+
+pub shown-there : ShownThere
+unfolding shownLine shownFrom shownAhead unanswered handed
+shown-there s w = go (sound s (length w)) (waitsAhead (s .walk) (isOpen (s .places .input)) (unanswered s w))
+  where
+    line-here : List ℕ
+    line-here = upTo (s .walk .settings .terminator) (take (firstLength (s .walk .settings .terminator) (unanswered s w)) (unanswered s w))
+
+    go : (b v : Bool)
+        → let shown = cond b (cond v line-here []) [] in
+        shown ≡ part (cond b (s .places .next) 0) (cond b (s .places .next) 0 + length shown) w
+    go true true =
+        let next = s .places .next in
+        front-there (s .walk .settings .terminator) (firstLength (s .walk .settings .terminator) (unanswered s w)) (s .places .end - next) (drop next w)
+        ∙ part-there next (length line-here) w
+    go true false = part-there (s .places .next) 0 w
+    go false v = part-there 0 0 w
 
 -- # Nothing twice
 
@@ -288,28 +332,21 @@ idle-offer : (s : Session) (w piece : List ℕ) → idle s piece ≡ true → of
 unfolding offering
 idle-offer s w piece e = rw e
 
-told-same : (b : Bool) (s : Session) → inputTold (s .going) (s .input) ≡ s .input → cond b (toldSession s) s ≡ s
+idle-when : (s : Session) (piece : List ℕ) → (length piece ≡ 0) ⊎ ((s .places .input ≡ Open → ⊥) ⊎ (s .walk .going ≡ On → ⊥)) → idle s piece ≡ true
+idle-when s piece h = go (idle s piece) refl
+  where
+    go : (b : Bool) → idle s piece ≡ b → b ≡ true
+    go true e = refl
+    go false e =
+        let k = not-idle s piece e in
+        absurd (⊎-elim (λ n. omega (arith, k .0)) (⊎-elim (λ n. n (is-open (s .places .input) (k .1))) (λ n. n (k .2))) h)
+
+told-same : (b : Bool) (s : Session) → inputTold (s .walk .going) (s .places .input) ≡ s .places .input → cond b (toldSession s) s ≡ s
 unfolding toldSession
 told-same true s e =
     ap
     (λ (n : Input).
-    let s' : Session =
-    record {
-      settings = s .settings;
-      window = s .window;
-      floor = s .floor;
-      next = s .next;
-      end = s .end;
-      bytes = s .bytes;
-      lines = s .lines;
-      matches = s .matches;
-      left = s .left;
-      given = s .given;
-      going = s .going;
-      input = n;
-      replaced = s .replaced;
-    }
-    in
+    let s' : Session = record { walk = s .walk; places = withInput (s .places) n } in
     s')
     e
 told-same false s e = refl
@@ -329,22 +366,21 @@ told-stopped NonmatchMet n h = refl
 pub nothing-twice : NothingTwice
 unfolding offered offeredWindow told
 nothing-twice s w piece = (
-  λ e. rw (idle-offer s w piece e) (idle-of (sound s (length w)) s w piece),
-  λ h. told-same (agrees s) s (told-again (s .going) (s .input) h),
-  λ h. told-same (agrees s) s (told-stopped (s .going) (s .input) h),
+  λ h. rw (idle-offer s w piece (idle-when s piece h)) (idle-of (sound s (length w)) s w piece),
+  λ h. told-same (agrees s) s (⊎-elim (told-again (s .walk .going) (s .places .input)) (told-stopped (s .walk .going) (s .places .input)) h),
 )
 
 -- # Bytes taken
 
-offer-bytes : (s : Session) (w piece : List ℕ) (o : Offering) → Agree s
+offer-bytes : (s : Session) (w piece : List ℕ) (o : OfferDecision) → Agree s
     → takenBytes s + offerAnswer o s w piece .taken ≡ takenBytes (offerAnswer o s w piece .session)
 unfolding stored takenBytes keptFrom
 offer-bytes s w piece (OfferRefused k) a = omega arith
 offer-bytes s w piece Idle a = omega arith
 offer-bytes s w piece (Take n quit) a = omega arith
 
-answer-bytes : (s : Session) (w : List ℕ) (hit : Bool) (o : Answering) → takenBytes (answerAnswer o s w hit .session) ≡ takenBytes s
-unfolding takenBytes answerSession stepped stateNext shown
+answer-bytes : (s : Session) (w : List ℕ) (hit : Bool) (o : AnswerDecision) → takenBytes (answerAnswer o s w hit .session) ≡ takenBytes s
+unfolding takenBytes answerSession placesNext walkNext stateNext shown stateSince sinceLines
 answer-bytes s w hit (AnswerRefused k) = refl
 answer-bytes s w hit Give = omega (arith, line-le s w)
 
@@ -355,7 +391,7 @@ told-bytes false s = refl
 
 opened-taken : (c : Settings) (window : ℕ) → opened c window .refusal ≡ 0 → 0 ≡ takenBytes (opened c window .session)
 unfolding takenBytes
-opened-taken c window e = ap (λ (s : Session). s .bytes + (s .end - s .next)) (sym (served-fresh c window e))
+opened-taken c window e = ap (λ (s : Session). s .walk .bytes + (s .places .end - s .places .next)) (sym (served-fresh c window e))
 
 off : (g : Going) → (g ≡ On → ⊥) → isOn g ≡ false
 off On h = absurd (h refl)
@@ -421,14 +457,14 @@ waits-in true false t u =
 waits-in false o t u = (λ e. absurd (true≢false (sym e)), λ k. absurd (omega arith))
 
 pub balance : Balance
-unfolding waits lineBytes waitingBytes unfinishedBytes takenBytes
+unfolding waits waitsAhead waitingBytes unfinishedBytes takenBytes
 balance n s w r h =
     let a = reached-agree n s r in
-    let t = s .settings .terminator in
+    let t = s .walk .settings .terminator in
     let u = unanswered s w in
-    let g = isOn (s .going) in
-    let o = isOpen (s .input) in (
+    let g = isOn (s .walk .going) in
+    let o = isOpen (s .places .input) in (
       omega (arith, reached-taken n s r, parts-all g o t u, unanswered-length s w a h),
       waits-in g o t u,
-      λ k. rw (off (s .going) k),
+      λ k. rw (off (s .walk .going) k),
     )

@@ -1,35 +1,33 @@
--- Any run can be carried on until its end record is served or it is refused by 3: each turn ends it or makes what is left lighter.
-use Prim.Native.Nat.{ℕ, zero, suc, _+_, _-_, _*_, _≤_, _<_}
-use mathlib.Core.Path.{_≡_, refl, sym, _∙_, ap, ap₂, subst}
+-- What is served at a moment of a run, and that each call of a caller who does what is next makes what is left lighter.
+use Prim.Native.Nat.{ℕ, _+_, _-_, _*_, _≤_, _<_}
+use mathlib.Core.Path.{_≡_, refl, sym, _∙_, ap, ap₂}
 use mathlib.Core.Bool.{Bool, true, false, cond, not, _&&_, _||_, and-false, and-eq-true-iff, true≢false}
-use mathlib.Core.List.{List, [], _∷_}
+use mathlib.Core.List.{List}
 use mathlib.Core.Logic.{_⊎_, inl, inr, ⊎-elim}
 use native.Mathlib.Decide.{decLe}
 use native.Mathlib.Omega.{arith}
 use lib.Dec.{ltb, eqb}
-use lib.ListN.{length, take, drop, length-append, length-drop, length-replicate, length-take, replicate}
+use lib.ListN.{length, take, drop, length-append, length-drop, length-take}
 use borrow.Author.Tests.{eq-eqb, eqb-true, eqb-false, le-ltb, lt-ltb, ltb-false, ltb-true, ne-eqb}
 use Rattle.definition.specs.declared.Row.{Row}
 use Rattle.definition.specs.declared.Going.the-variants.{On}
 use Rattle.definition.specs.Bounds.{maxInput}
-use Rattle.definition.specs.Rows.{rowSize}
-use Rattle.definition.specs.Text.{text}
+use Rattle.definition.specs.Text.{firstPlace, text}
 use Rattle.definition.proofs.Uncut.{text-append}
+use Rattle.core.specs.Walk.{isOn, remainsAhead, waitsAhead}
+use Rattle.core.proofs.Keeps.{is-on}
 use Rattle.session.specs.declared.Input.{Input}
 use Rattle.session.specs.declared.Input.the-variants.{Open, Ended, QuitFound}
-use Rattle.session.specs.declared.Offering.{Offering}
 use Rattle.session.specs.declared.Session.{Session}
 use Rattle.session.specs.declared.Waiting.the-variants.{LineWaits}
-use Rattle.session.specs.Calls.{answerSession, answered, beforeQuit, fitting, idle, inputTold, offerAnswer, offered, quitFront, recorded, recording, remains, stepped, stored, taking, told, toldSession, waiting}
-use Rattle.session.specs.Held.{heldBytes, isOn, isOpen, keptFrom, lineBytes, unanswered, waits}
-use Rattle.session.specs.Promises.{Ends, NoRoom, Within}
-use Rattle.session.specs.Run.{At, Steps, here, offer, answer, tell, atAnswer, atEnd, atOffer}
-use Rattle.session.specs.Sound.{Agree, takenBytes}
+use Rattle.session.specs.Calls.{OfferDecision, answerSession, beforeQuit, fitting, idle, inputTold, offerAnswer, placesNext, quitFront, recorded, recording, remains, stored, taking, told, toldSession, waiting}
+use Rattle.session.specs.Held.{heldBytes, isOpen, keptFrom, unanswered, waits}
+use Rattle.session.specs.Promises.{Within}
+use Rattle.session.specs.Sound.{Agree, aheadBytes, takenBytes}
 use Rattle.session.proofs.Agree.{agrees-of}
-use Rattle.session.proofs.Cases.{OfferCase, unsound, idling, quits, sized, full, takes, offer-case}
-use Rattle.session.proofs.History.{InvAt, answer-gives, inv-steps, join, steps-stay}
+use Rattle.session.proofs.Cases.{OfferCase, unsound, idling, quits, sized, full, takes}
 use Rattle.session.proofs.Invariant.{Inv, sound-now, taken-is, unanswered-length}
-use Rattle.session.proofs.Keeps.{is-on, line-le, waiting-length}
+use Rattle.session.proofs.Keeps.{line-le, waiting-length}
 use Rattle.session.proofs.Taking.{quit-le, rest-text, take-uncut}
 
 pub not-front : (b n : ℕ) → 0 < n → (eqb b 0 && ltb 0 n) ≡ false → 0 < b
@@ -41,16 +39,16 @@ not-front b n h e = elim (decLe b 0) [
 ]
 
 -- a piece that is not idle has bytes, and finds the input open and the run going on
-pub not-idle : (s : Session) (piece : List ℕ) → idle s piece ≡ false → (0 < length piece) × (isOpen (s .input) ≡ true) × (s .going ≡ On)
+pub not-idle : (s : Session) (piece : List ℕ) → idle s piece ≡ false → (0 < length piece) × (isOpen (s .places .input) ≡ true) × (s .walk .going ≡ On)
 unfolding idle
-not-idle s piece = go (eqb (length piece) 0) (isOpen (s .input)) (isOn (s .going)) refl refl refl
+not-idle s piece = go (eqb (length piece) 0) (isOpen (s .places .input)) (isOn (s .walk .going)) refl refl refl
   where
-    go : (b o g : Bool) → eqb (length piece) 0 ≡ b → isOpen (s .input) ≡ o → isOn (s .going) ≡ g → (b || not o || not g) ≡ false
-        → (0 < length piece) × (isOpen (s .input) ≡ true) × (s .going ≡ On)
+    go : (b o g : Bool) → eqb (length piece) 0 ≡ b → isOpen (s .places .input) ≡ o → isOn (s .walk .going) ≡ g → (b || not o || not g) ≡ false
+        → (0 < length piece) × (isOpen (s .places .input) ≡ true) × (s .walk .going ≡ On)
     go true o g e i h k = absurd (true≢false k)
     go false false g e i h k = absurd (true≢false k)
     go false true false e i h k = absurd (true≢false k)
-    go false true true e i h k = (omega (arith, eqb-false (length piece) 0 e), i, is-on (s .going) h)
+    go false true true e i h k = (omega (arith, eqb-false (length piece) 0 e), i, is-on (s .walk .going) h)
 
 -- how much is left to do
 abbrev pub openBit : Input → ℕ
@@ -58,25 +56,26 @@ openBit Open = 1
 openBit Ended = 0
 openBit QuitFound = 0
 
-bit-most : (q : Bool) → openBit (cond q QuitFound Open) ≤ 1
-bit-most true = omega arith
-bit-most false = omega arith
+pub open-most : (n : Input) → openBit n ≤ 1
+open-most Open = omega arith
+open-most Ended = omega arith
+open-most QuitFound = omega arith
 
 unfoldable pub weight : Session → List ℕ → ℕ
-weight s rest = 2 * length rest + (s .end - s .next) + openBit (s .input)
+weight s rest = 2 * length rest + (s .places .end - s .places .next) + openBit (s .places .input)
 
 -- after an offer that takes a byte or finds the Quit byte less is left
-stored-falls : (s : Session) (w piece rest : List ℕ) → Agree s → s .input ≡ Open → (n : ℕ) (quit : Bool) → n ≤ length rest → (0 < n) ⊎ (quit ≡ true)
+stored-falls : (s : Session) (w piece rest : List ℕ) → Agree s → s .places .input ≡ Open → (n : ℕ) (quit : Bool) → n ≤ length rest → (0 < n) ⊎ (quit ≡ true)
     → weight (stored s w piece n quit) (drop n rest) < weight s rest
 unfolding weight stored keptFrom
-stored-falls s w piece rest a e n quit h (inl k) = omega (arith, length-drop n rest, bit-most quit, ap openBit e)
+stored-falls s w piece rest a e n quit h (inl k) = omega (arith, length-drop n rest, open-most (cond quit QuitFound Open), ap openBit e)
 stored-falls s w piece rest a e n quit h (inr k) = omega (arith, length-drop n rest, ap (λ q. openBit (cond q QuitFound Open)) k, ap openBit e)
 
 fitting-rest : (s : Session) (w : List ℕ) (k : ℕ) (rest : List ℕ) → fitting s w (take k rest) ≤ length rest
 unfolding fitting beforeQuit
-fitting-rest s w k rest = omega (arith, quit-le (s .settings .binary) (take k rest), length-take k rest)
+fitting-rest s w k rest = omega (arith, quit-le (s .walk .settings .binary) (take k rest), length-take k rest)
 
-pub fitting-some : (s : Session) (w piece : List ℕ) → 0 < beforeQuit s piece → heldBytes s w < s .window → takenBytes s < maxInput → 0 < fitting s w piece
+pub fitting-some : (s : Session) (w piece : List ℕ) → 0 < beforeQuit s piece → heldBytes s w < s .places .window → takenBytes s < maxInput → 0 < fitting s w piece
 unfolding fitting
 fitting-some s w piece h k m = omega arith
 
@@ -99,15 +98,15 @@ is-open Open e = refl
 is-open Ended e = absurd (true≢false (sym e))
 is-open QuitFound e = absurd (true≢false (sym e))
 
-pub stopped-ends : (s : Session) → isOn (s .going) ≡ false → remains s ≡ false
-unfolding remains
+pub stopped-ends : (s : Session) → isOn (s .walk .going) ≡ false → remains s ≡ false
+unfolding remains remainsAhead
 stopped-ends s e = rw e
 
-pub held-ends : (s : Session) → isOpen (s .input) ≡ false → s .end ≤ s .next → remains s ≡ false
-unfolding remains
-held-ends s o h = rw (o, le-ltb (s .next) (s .end) h) (and-false (isOn (s .going)))
+pub held-ends : (s : Session) → isOpen (s .places .input) ≡ false → s .places .end ≤ s .places .next → remains s ≡ false
+unfolding remains remainsAhead
+held-ends s o h = rw (o, le-ltb 0 (aheadBytes s) (omega arith)) (and-false (isOn (s .walk .going)))
 
-pub busy : (s : Session) (piece : List ℕ) → 0 < length piece → s .input ≡ Open → s .going ≡ On → idle s piece ≡ false
+pub busy : (s : Session) (piece : List ℕ) → 0 < length piece → s .places .input ≡ Open → s .walk .going ≡ On → idle s piece ≡ false
 unfolding idle
 busy s piece h e g = rw (ne-eqb (length piece) 0 (λ z. omega arith), ap isOpen e, ap isOn g)
 
@@ -115,11 +114,11 @@ module _ (input : List ℕ) (answers : ℕ → Bool) (s : Session) (w rest : Lis
     (i : Inv input answers s w rest count given) where
   -- a piece with bytes that no Quit byte leads has a byte of the text
   pub more-text : (k : ℕ) → 0 < length (take k rest) → quitFront s (take k rest) ≡ false
-      → (0 < beforeQuit s (take k rest)) × (0 < length (text (s .settings) rest))
+      → (0 < beforeQuit s (take k rest)) × (0 < length (text (s .walk .settings) rest))
   unfolding quitFront
   more-text k h q =
       let piece = take k rest in
-      let c = s .settings in
+      let c = s .walk .settings in
       let front = not-front (beforeQuit s piece) (length piece) h q in
       let parts = rest-text s 1 k rest front in (
         front,
@@ -127,9 +126,9 @@ module _ (input : List ℕ) (answers : ℕ → Bool) (s : Session) (w rest : Lis
       )
 
   -- within the size, bytes of the text that are left can be taken
-  pub size-left : Within (s .settings) input → 0 < length (text (s .settings) rest) → takenBytes s < maxInput
+  pub size-left : Within (s .walk .settings) input → 0 < length (text (s .walk .settings) rest) → takenBytes s < maxInput
   size-left h k =
-      let c = s .settings in
+      let c = s .walk .settings in
       omega (
         arith,
         h,
@@ -143,7 +142,7 @@ module _ (input : List ℕ) (answers : ℕ → Bool) (s : Session) (w rest : Lis
 
   -- # What is served
 
-  pub offer-served : Within (s .settings) input → (k : ℕ) (o : Offering) → OfferCase s w (take k rest) o
+  pub offer-served : Within (s .walk .settings) input → (k : ℕ) (o : OfferDecision) → OfferCase s w (take k rest) o
       → (offerAnswer o s w (take k rest) .refusal ≡ 0) ⊎ (offerAnswer o s w (take k rest) .refusal ≡ 3)
   unfolding taking
   offer-served h k _ (unsound e) = absurd (true≢false (sym (sound-now input answers s w rest count given i) ∙ e))
@@ -176,8 +175,8 @@ module _ (input : List ℕ) (answers : ℕ → Bool) (s : Session) (w rest : Lis
 
   -- # What is left gets lighter
 
-  pub offer-falls : waits s w ≡ false → s .input ≡ Open → s .going ≡ On → (k : ℕ) → 0 < length (take k rest)
-      → (o : Offering) → OfferCase s w (take k rest) o
+  pub offer-falls : waits s w ≡ false → s .places .input ≡ Open → s .walk .going ≡ On → (k : ℕ) → 0 < length (take k rest)
+      → (o : OfferDecision) → OfferCase s w (take k rest) o
       → (offerAnswer o s w (take k rest) .refusal ≡ 3)
       ⊎ ((offerAnswer o s w (take k rest) .refusal ≡ 5)
       ⊎ ((offerAnswer o s w (take k rest) .refusal ≡ 0)
@@ -194,7 +193,7 @@ module _ (input : List ℕ) (answers : ℕ → Bool) (s : Session) (w rest : Lis
   offer-falls v n g k l _ (sized p m) = inr (inl refl)
   offer-falls v n g k l _ (full p m u f) = inl refl
   offer-falls v n g k l _ (takes p m r) =
-      let room : heldBytes s w < s .window = ⊎-elim (λ t. absurd (true≢false (sym t ∙ v))) (λ t. t) r in
+      let room : heldBytes s w < s .places .window = ⊎-elim (λ t. absurd (true≢false (sym t ∙ v))) (λ t. t) r in
       let front = more-text k (not-idle s (take k rest) (p .1) .0) (p .2) .0 in
       inr (inr (
         refl,
@@ -203,94 +202,21 @@ module _ (input : List ℕ) (answers : ℕ → Bool) (s : Session) (w rest : Lis
       ))
 
   pub answer-falls : (hit : Bool) → waits s w ≡ true → weight (answerSession s w hit) rest < weight s rest
-  unfolding weight answerSession stepped
+  unfolding weight answerSession placesNext
   answer-falls hit v = omega (arith, waiting-length s w v, line-le s w)
 
-  toldSession-falls : s .input ≡ Open → s .going ≡ On → weight (toldSession s) rest < weight s rest
+  toldSession-falls : s .places .input ≡ Open → s .walk .going ≡ On → weight (toldSession s) rest < weight s rest
   unfolding weight toldSession
   toldSession-falls e g = omega (arith, ap₂ (λ k n. openBit (inputTold k n)) g e, ap openBit e)
 
-  pub told-falls : s .input ≡ Open → s .going ≡ On → weight (told s .session) rest < weight s rest
+  pub told-falls : s .places .input ≡ Open → s .walk .going ≡ On → weight (told s .session) rest < weight s rest
   unfolding told
   told-falls e g = rw (agrees-of s (i .agree)) (toldSession-falls e g)
 
   -- once the input is no longer open, a run that goes on with no line waiting holds nothing unanswered
-  pub nothing-held : waits s w ≡ false → isOn (s .going) ≡ true → isOpen (s .input) ≡ false → s .end ≤ s .next
-  unfolding waits
+  pub nothing-held : waits s w ≡ false → isOn (s .walk .going) ≡ true → isOpen (s .places .input) ≡ false → s .places .end ≤ s .places .next
+  unfolding waits waitsAhead
   nothing-held v g o =
       let n = length (unanswered s w) in
-      let e : (ltb (lineBytes s w) n || ltb 0 n) ≡ false = rw (g, o) at v in
-      omega (arith, ltb-false 0 n (or-false (ltb (lineBytes s w) n) (ltb 0 n) e .1), unanswered-length s w (i .agree) (i .window-is))
-
--- # A turn
-
-abbrev Lighter : (ℕ → Bool) → At → Type 0
-Lighter answers a = (b : At) × Steps answers a b × (weight (b .session) (b .rest) < weight (a .session) (a .rest))
-
-module _ (input : List ℕ) (answers : ℕ → Bool) (a : At) (i : InvAt input answers a) (h : Within (a .session .settings) input) where
-  answer-turn : waits (a .session) (a .window) ≡ true → Lighter answers a
-  unfolding answered
-  answer-turn v =
-      let s = a .session in
-      let w = a .window in
-      let hit = answers (a .count + 1) in
-      let table : List ℕ = replicate (rowSize * (s .settings .before + 2)) 0 in
-      let size : rowSize * (s .settings .before + 2) ≤ length table =
-      omega (arith, length-replicate {A = ℕ} (rowSize * (s .settings .before + 2)) 0)
-      in
-      let gives = answer-gives input answers s w (a .rest) (a .count) (a .rows) i (length table) hit v size in (
-        atAnswer answers table a,
-        answer table (waiting-now input answers s w (a .rest) (a .count) (a .rows) i v) size here,
-        rw gives (answer-falls input answers s w (a .rest) (a .count) (a .rows) i hit v),
-      )
-
-  offer-turn : waits (a .session) (a .window) ≡ false → a .session .input ≡ Open → a .session .going ≡ On → 0 < length (a .rest) → NoRoom a ⊎ Lighter answers a
-  unfolding offered
-  offer-turn v n g l =
-      let s = a .session in
-      let w = a .window in
-      let k = length (a .rest) in
-      let case = offer-case s w (take k (a .rest)) in
-      let never : offered s w (take k (a .rest)) .refusal ≡ 5 → ⊥ =
-      λ e. ⊎-elim (λ z. omega (arith, e, z)) (λ z. omega (arith, e, z)) (offer-served input answers s w (a .rest) (a .count) (a .rows) i h k _ case)
-      in
-      ⊎-elim (λ e. inl (k, e)) (λ more. inr (⊎-elim (λ e. absurd (never e)) (λ e. (atOffer k a, offer k here, e .1)) more))
-      (offer-falls input answers s w (a .rest) (a .count) (a .rows) i v n g k (omega (arith, l, length-take k (a .rest))) _ case)
-
-  tell-turn : a .session .input ≡ Open → a .session .going ≡ On → a .rest ≡ [] → Lighter answers a
-  tell-turn n g e = (atEnd a, tell (λ _ _. e) here, told-falls input answers (a .session) (a .window) (a .rest) (a .count) (a .rows) i n g)
-
-  turn : Ends a ⊎ (NoRoom a ⊎ Lighter answers a)
-  turn = go (waits (a .session) (a .window)) refl (isOn (a .session .going)) refl (isOpen (a .session .input)) refl (a .rest) refl
-    where
-      go : (v : Bool) → waits (a .session) (a .window) ≡ v → (g : Bool) → isOn (a .session .going) ≡ g → (o : Bool) → isOpen (a .session .input) ≡ o
-          → (xs : List ℕ) → a .rest ≡ xs → Ends a ⊎ (NoRoom a ⊎ Lighter answers a)
-      go true v g e o k xs r = inr (inr (answer-turn v))
-      go false v false e o k xs r = inl (ends-now input answers (a .session) (a .window) (a .rest) (a .count) (a .rows) i (stopped-ends (a .session) e))
-      go false v true e false k xs r =
-          inl (ends-now input answers (a .session) (a .window) (a .rest) (a .count) (a .rows) i
-          (held-ends (a .session) k (nothing-held input answers (a .session) (a .window) (a .rest) (a .count) (a .rows) i v e k)))
-      go false v true e true k [] r = inr (inr (tell-turn (is-open (a .session .input) k) (is-on (a .session .going) e) r))
-      go false v true e true k (x ∷ xs) r =
-          inr (offer-turn v (is-open (a .session .input) k) (is-on (a .session .going) e) (omega (arith, ap length r)))
-
--- # Turn after turn
-
-carry : (fuel : ℕ) (input : List ℕ) (answers : ℕ → Bool) (a : At) → InvAt input answers a → Within (a .session .settings) input
-    → weight (a .session) (a .rest) ≤ fuel → (b : At) × Steps answers a b × (Ends b ⊎ NoRoom b)
-carry zero input answers a i h l =
-    ⊎-elim (λ e. (a, here, inl e)) (λ r. ⊎-elim (λ e. (a, here, inr e)) (λ t. absurd (omega (arith, t .2))) r) (turn input answers a i h)
-carry (suc fuel) input answers a i h l =
-    ⊎-elim (λ e. (a, here, inl e))
-    (λ r. ⊎-elim (λ e. (a, here, inr e))
-    (λ t.
-    let b = t .0 in
-    let same = steps-stay answers a b (t .1) .0 in
-    let rest = carry fuel input answers b (inv-steps input answers a b i (t .1)) (subst (λ c. Within c input) (sym same) h) (omega (arith, t .2)) in
-    (rest .0, join answers a b (rest .0) (t .1) (rest .1), rest .2))
-    r)
-    (turn input answers a i h)
-
-pub carried : (input : List ℕ) (answers : ℕ → Bool) (a : At) → InvAt input answers a → Within (a .session .settings) input
-    → (b : At) × Steps answers a b × (Ends b ⊎ NoRoom b)
-carried input answers a i h = carry (weight (a .session) (a .rest)) input answers a i h (omega arith)
+      let e : (ltb (firstPlace (s .walk .settings .terminator) (unanswered s w)) n || ltb 0 n) ≡ false = rw (g, o) at v in
+      omega (arith, ltb-false 0 n (or-false (ltb (firstPlace (s .walk .settings .terminator) (unanswered s w)) n) (ltb 0 n) e .1), unanswered-length s w (i .agree) (i .window-is))

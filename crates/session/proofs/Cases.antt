@@ -9,12 +9,9 @@ use lib.ListN.{length}
 use borrow.Author.Tests.{eqb-false, le-leb, le-ltb, leb-true, leb-false, lt-leb, lt-ltb, ltb-true, ltb-false}
 use Rattle.definition.specs.Bounds.{maxInput}
 use Rattle.definition.specs.Rows.{rowSize}
-use Rattle.session.specs.declared.Answering.{Answering}
-use Rattle.session.specs.declared.Answering.the-variants.{AnswerRefused, Give}
-use Rattle.session.specs.declared.Offering.{Offering}
-use Rattle.session.specs.declared.Offering.the-variants.{OfferRefused, Idle}
+use Rattle.core.specs.Answer.{AnswerDecision, AnswerRefused, Give, answeringSince}
 use Rattle.session.specs.declared.Session.{Session}
-use Rattle.session.specs.Calls.{answerAnswer, answerRows, answering, belowOne, idle, offerAnswer, offering, quitFront, taking}
+use Rattle.session.specs.Calls.{Idle, OfferDecision, OfferRefused, answerAnswer, answerRows, answering, belowOne, idle, offerAnswer, offering, quitFront, taking}
 use Rattle.session.specs.Caller.{OfferServed, Plain}
 use Rattle.session.specs.Held.{heldBytes, waits}
 use Rattle.session.specs.Sound.{sound, takenBytes}
@@ -24,24 +21,24 @@ and-false true = refl
 and-false false = refl
 
 module _ (s : Session) (w piece : List ℕ) where
-  pub data OfferCase : Offering → Type 0 where
+  pub data OfferCase : OfferDecision → Type 0 where
     unsound : sound s (length w) ≡ false → OfferCase (OfferRefused 6)
     idling : sound s (length w) ≡ true → idle s piece ≡ true → OfferCase Idle
     quits : sound s (length w) ≡ true → idle s piece ≡ false → quitFront s piece ≡ true → OfferCase (taking s w piece)
     sized : Plain s w piece → maxInput ≤ takenBytes s → OfferCase (OfferRefused 5)
-    full : Plain s w piece → takenBytes s < maxInput → waits s w ≡ false → s .window ≤ heldBytes s w → OfferCase (OfferRefused 3)
-    takes : Plain s w piece → takenBytes s < maxInput → (waits s w ≡ true) ⊎ (heldBytes s w < s .window) → OfferCase (taking s w piece)
+    full : Plain s w piece → takenBytes s < maxInput → waits s w ≡ false → s .places .window ≤ heldBytes s w → OfferCase (OfferRefused 3)
+    takes : Plain s w piece → takenBytes s < maxInput → (waits s w ≡ true) ⊎ (heldBytes s w < s .places .window) → OfferCase (taking s w piece)
 
-  offer-room : (b v : Bool) → waits s w ≡ b → leb (s .window) (heldBytes s w) ≡ v → Plain s w piece → takenBytes s < maxInput
+  offer-room : (b v : Bool) → waits s w ≡ b → leb (s .places .window) (heldBytes s w) ≡ v → Plain s w piece → takenBytes s < maxInput
       → OfferCase (cond (not b && v) (OfferRefused 3) (taking s w piece))
   offer-room true v e k p m = takes p m (inl e)
-  offer-room false true e k p m = full p m e (leb-true (s .window) (heldBytes s w) k)
-  offer-room false false e k p m = takes p m (inr (leb-false (s .window) (heldBytes s w) k))
+  offer-room false true e k p m = full p m e (leb-true (s .places .window) (heldBytes s w) k)
+  offer-room false false e k p m = takes p m (inr (leb-false (s .places .window) (heldBytes s w) k))
 
   offer-size : (b : Bool) → leb maxInput (takenBytes s) ≡ b → Plain s w piece
-      → OfferCase (cond b (OfferRefused 5) (cond (not (waits s w) && leb (s .window) (heldBytes s w)) (OfferRefused 3) (taking s w piece)))
+      → OfferCase (cond b (OfferRefused 5) (cond (not (waits s w) && leb (s .places .window) (heldBytes s w)) (OfferRefused 3) (taking s w piece)))
   offer-size true e p = sized p (leb-true maxInput (takenBytes s) e)
-  offer-size false e p = offer-room (waits s w) (leb (s .window) (heldBytes s w)) refl refl p (leb-false maxInput (takenBytes s) e)
+  offer-size false e p = offer-room (waits s w) (leb (s .places .window) (heldBytes s w)) refl refl p (leb-false maxInput (takenBytes s) e)
 
   offer-first : (b i q : Bool) → sound s (length w) ≡ b → idle s piece ≡ i → quitFront s piece ≡ q
       → OfferCase
@@ -49,7 +46,7 @@ module _ (s : Session) (w piece : List ℕ) where
       (cond i Idle
       (cond q (taking s w piece)
       (cond (leb maxInput (takenBytes s)) (OfferRefused 5)
-      (cond (not (waits s w) && leb (s .window) (heldBytes s w)) (OfferRefused 3) (taking s w piece))))))
+      (cond (not (waits s w) && leb (s .places .window) (heldBytes s w)) (OfferRefused 3) (taking s w piece))))))
   offer-first false i q e j k = unsound e
   offer-first true true q e j k = idling e j
   offer-first true false true e j k = quits e j k
@@ -60,26 +57,26 @@ module _ (s : Session) (w piece : List ℕ) where
   offer-case = offer-first (sound s (length w)) (idle s piece) (quitFront s piece) refl refl refl
 
   -- and each case decides
-  pub offer-is : (o : Offering) → OfferCase o → offering s w piece ≡ o
+  pub offer-is : (o : OfferDecision) → OfferCase o → offering s w piece ≡ o
   unfolding offering
   offer-is _ (unsound e) = rw e
   offer-is _ (idling e j) = rw (e, j)
   offer-is _ (quits e j k) = rw (e, j, k)
   offer-is _ (sized p m) = rw (p .0, p .1, p .2, le-leb maxInput (takenBytes s) m)
-  offer-is _ (full p m v f) = rw (p .0, p .1, p .2, lt-leb maxInput (takenBytes s) m, v, le-leb (s .window) (heldBytes s w) f)
+  offer-is _ (full p m v f) = rw (p .0, p .1, p .2, lt-leb maxInput (takenBytes s) m, v, le-leb (s .places .window) (heldBytes s w) f)
   offer-is _ (takes p m (inl v)) = rw (p .0, p .1, p .2, lt-leb maxInput (takenBytes s) m, v)
   offer-is _ (takes p m (inr f)) =
-      rw (p .0, p .1, p .2, lt-leb maxInput (takenBytes s) m, lt-leb (s .window) (heldBytes s w) f, and-false (not (waits s w)))
+      rw (p .0, p .1, p .2, lt-leb maxInput (takenBytes s) m, lt-leb (s .places .window) (heldBytes s w) f, and-false (not (waits s w)))
 
 never : {A : Type 0} (m n : ℕ) → eqb m n ≡ false → m ≡ n → A
 never m n e z = absurd (eqb-false m n e z)
 
 -- what each number says of an offer
-pub offer-only : (s : Session) (w piece : List ℕ) (o : Offering) → OfferCase s w piece o
+pub offer-only : (s : Session) (w piece : List ℕ) (o : OfferDecision) → OfferCase s w piece o
     → let n = offerAnswer o s w piece .refusal in
     (n ≡ 6 → sound s (length w) ≡ false)
     × (n ≡ 5 → Plain s w piece × (maxInput ≤ takenBytes s))
-    × (n ≡ 3 → Plain s w piece × (takenBytes s < maxInput) × (waits s w ≡ false) × (s .window ≤ heldBytes s w))
+    × (n ≡ 3 → Plain s w piece × (takenBytes s < maxInput) × (waits s w ≡ false) × (s .places .window ≤ heldBytes s w))
     × (n ≡ 0 → OfferServed s w piece)
 unfolding taking
 offer-only s w piece _ (unsound e) = (λ z. e, never 6 5 refl, never 6 3 refl, never 6 0 refl)
@@ -90,7 +87,7 @@ offer-only s w piece _ (full p m v f) = (never 3 6 refl, never 3 5 refl, λ z. (
 offer-only s w piece _ (takes p m v) = (never 0 6 refl, never 0 5 refl, never 0 3 refl, λ z. (p .0, inr (inr (m, v))))
 
 module _ (s : Session) (w : List ℕ) (table : ℕ) (hit : Bool) where
-  pub data AnswerCase : Answering → Type 0 where
+  pub data AnswerCase : AnswerDecision → Type 0 where
     unsound : sound s (length w) ≡ false → AnswerCase (AnswerRefused 6)
     none : sound s (length w) ≡ true → waits s w ≡ false → AnswerCase (AnswerRefused 6)
     below : sound s (length w) ≡ true → waits s w ≡ true → belowOne s w hit ≡ true → AnswerCase (AnswerRefused 6)
@@ -110,13 +107,13 @@ module _ (s : Session) (w : List ℕ) (table : ℕ) (hit : Bool) where
   answer-first true true false false e i j k = gives e i j (ltb-false table (rowSize * length (answerRows s w hit)) k)
 
   pub answer-case : AnswerCase (answering s w table hit)
-  unfolding answering
+  unfolding answering answeringSince belowOne answerRows
   answer-case =
       answer-first (sound s (length w)) (waits s w) (belowOne s w hit) (ltb table (rowSize * length (answerRows s w hit))) refl refl refl refl
 
   -- and each case decides
-  pub answer-is : (o : Answering) → AnswerCase o → answering s w table hit ≡ o
-  unfolding answering
+  pub answer-is : (o : AnswerDecision) → AnswerCase o → answering s w table hit ≡ o
+  unfolding answering answeringSince belowOne answerRows
   answer-is _ (unsound e) = rw e
   answer-is _ (none e v) = rw (e, v)
   answer-is _ (below e v b) = rw (e, v, b)
@@ -124,7 +121,7 @@ module _ (s : Session) (w : List ℕ) (table : ℕ) (hit : Bool) where
   answer-is _ (gives e v b m) = rw (e, v, b, le-ltb table (rowSize * length (answerRows s w hit)) m)
 
   -- what each number says of an answer
-  pub answer-only : (o : Answering) → AnswerCase o
+  pub answer-only : (o : AnswerDecision) → AnswerCase o
       → let n = answerAnswer o s w hit .refusal in
       (n ≡ 6 → (sound s (length w) ≡ false) ⊎ ((waits s w ≡ false) ⊎ (belowOne s w hit ≡ true)))
       × (n ≡ 4 → (sound s (length w) ≡ true) × (waits s w ≡ true) × (belowOne s w hit ≡ false) × (table < rowSize * length (answerRows s w hit)))

@@ -20,15 +20,16 @@ use Rattle.definition.specs.State.{State, begun, rows, state}
 use Rattle.definition.specs.Text.{firstPlace, lines, text, textUnder, upTo}
 use Rattle.definition.proofs.Kept.{rows-stopped, state-append, state-stopped}
 use Rattle.definition.proofs.Terminator.{first-append, first-append-none}
+use Rattle.core.specs.Walk.{isOn, remainsAhead, walkEnd}
+use Rattle.core.proofs.Keeps.{is-on}
 use Rattle.session.specs.declared.Input.{Input}
 use Rattle.session.specs.declared.Input.the-variants.{Open, Ended, QuitFound}
 use Rattle.session.specs.declared.Session.{Session}
 use Rattle.session.specs.Calls.{goneThrough, isQuit, recordOf, recorded, recordedPlace, recording, remains, replacedIn, underConvert}
-use Rattle.session.specs.Held.{isOn, isOpen, unanswered}
-use Rattle.session.specs.Sound.{agrees, takenBytes}
+use Rattle.session.specs.Held.{isOpen, unanswered}
+use Rattle.session.specs.Sound.{agrees, aheadBytes, takenBytes}
 use Rattle.session.proofs.Giving.{ended-text, going-is}
 use Rattle.session.proofs.Invariant.{Inv, InputNow, taken-is, unanswered-length}
-use Rattle.session.proofs.Keeps.{is-on}
 
 -- # Whether a Quit byte was met
 
@@ -114,21 +115,21 @@ module _ (k : Binary) (t bytes count matches taken : ℕ) (past rest : List ℕ)
 -- # When the record is served
 
 pub data Done (s : Session) : Type 0 where
-  stopped : (s .going ≡ On → ⊥) → Done s
-  ended : s .going ≡ On → isOpen (s .input) ≡ false → s .end ≤ s .next → Done s
+  stopped : (s .walk .going ≡ On → ⊥) → Done s
+  ended : s .walk .going ≡ On → isOpen (s .places .input) ≡ false → s .places .end ≤ s .places .next → Done s
 
 is-off : (g : Going) → isOn g ≡ false → g ≡ On → ⊥
 is-off g e k = true≢false (sym (ap isOn k) ∙ e)
 
 done-of : (s : Session) → remains s ≡ false → Done s
-unfolding remains
-done-of s = go (isOn (s .going)) (isOpen (s .input)) (ltb (s .next) (s .end)) refl refl refl
+unfolding remains remainsAhead
+done-of s = go (isOn (s .walk .going)) (isOpen (s .places .input)) (ltb 0 (aheadBytes s)) refl refl refl
   where
-    go : (b v l : Bool) → isOn (s .going) ≡ b → isOpen (s .input) ≡ v → ltb (s .next) (s .end) ≡ l → (b && (v || l)) ≡ false → Done s
+    go : (b v l : Bool) → isOn (s .walk .going) ≡ b → isOpen (s .places .input) ≡ v → ltb 0 (aheadBytes s) ≡ l → (b && (v || l)) ≡ false → Done s
     go true true l e i h k = absurd (true≢false k)
     go true false true e i h k = absurd (true≢false k)
-    go true false false e i h k = ended (is-on (s .going) e) i (ltb-false (s .next) (s .end) h)
-    go false v l e i h k = stopped (is-off (s .going) e)
+    go true false false e i h k = ended (is-on (s .walk .going) e) i (omega (arith, ltb-false 0 (aheadBytes s) h))
+    go false v l e i h k = stopped (is-off (s .walk .going) e)
 
 pub served-done : (s : Session) → recorded s .refusal ≡ 0 → Done s
 unfolding recorded recording
@@ -149,62 +150,62 @@ none-of-length (x ∷ xs) h = absurd (omega arith)
 
 module _ (input : List ℕ) (answers : ℕ → Bool) (s : Session) (w rest : List ℕ) (count : ℕ) (given : List Row)
     (i : Inv input answers s w rest count given) where
-  gone-le : s .bytes ≤ length (i .past)
+  gone-le : s .walk .bytes ≤ length (i .past)
   gone-le = omega (arith, i .uncut, ap length (i .text-is), length-append (flatten (i .gone)) (unanswered s w), i .bytes-is)
 
   abbrev SameAs : Going → Bool → Type 0
   SameAs =
-      Same (s .settings .binary) (s .settings .terminator) (s .bytes) (s .lines) (s .matches) (takenBytes s) (i .past) rest (s .replaced)
+      Same (s .walk .settings .binary) (s .walk .settings .terminator) (s .walk .bytes) (s .walk .lines) (s .walk .matches) (takenBytes s) (i .past) rest (s .places .replaced)
 
-  same-now : (n : Input) → isOpen n ≡ false → InputNow (s .settings) n rest → SameAs On (isQuit n)
+  same-now : (n : Input) → isOpen n ≡ false → InputNow (s .walk .settings) n rest → SameAs On (isQuit n)
   unfolding text
   same-now Open o h = absurd (true≢false o)
   same-now Ended o h =
-      same-ended (s .settings .binary) (s .settings .terminator) (s .bytes) (s .lines) (s .matches) (takenBytes s) (i .past) rest (s .replaced)
+      same-ended (s .walk .settings .binary) (s .walk .settings .terminator) (s .walk .bytes) (s .walk .lines) (s .walk .matches) (takenBytes s) (i .past) rest (s .places .replaced)
       (i .replaced-is) gone-le (i .uncut) h
   same-now QuitFound o h =
-      same-quit (s .settings .binary) (s .settings .terminator) (s .bytes) (s .lines) (s .matches) (takenBytes s) (i .past) rest (s .replaced)
+      same-quit (s .walk .settings .binary) (s .walk .settings .terminator) (s .walk .bytes) (s .walk .lines) (s .walk .matches) (takenBytes s) (i .past) rest (s .places .replaced)
       (taken-is input answers s w rest count given i) (i .uncut) (h .0) (h .1)
 
-  same-done : Done s → SameAs (s .going) (isQuit (s .input))
+  same-done : Done s → SameAs (s .walk .going) (isQuit (s .places .input))
   same-done (stopped h) =
-      same-stopped (s .settings .binary) (s .settings .terminator) (s .bytes) (s .lines) (s .matches) (takenBytes s) (i .past) rest (s .replaced)
-      (i .replaced-is) gone-le (s .going) (isQuit (s .input)) h
-  same-done (ended g o l) = subst (λ k. SameAs k (isQuit (s .input))) (sym g) (same-now (s .input) o (i .input-now))
+      same-stopped (s .walk .settings .binary) (s .walk .settings .terminator) (s .walk .bytes) (s .walk .lines) (s .walk .matches) (takenBytes s) (i .past) rest (s .places .replaced)
+      (i .replaced-is) gone-le (s .walk .going) (isQuit (s .places .input)) h
+  same-done (ended g o l) = subst (λ k. SameAs k (isQuit (s .places .input))) (sym g) (same-now (s .places .input) o (i .input-now))
 
-  pub record-same : Done s → recordOf s ≡ endRecord (s .settings) input (s .bytes) (s .lines) (s .matches) (s .going)
-  unfolding recordOf recordedPlace endRecord
+  pub record-same : Done s → recordOf s ≡ endRecord (s .walk .settings) input (s .walk .bytes) (s .walk .lines) (s .walk .matches) (s .walk .going)
+  unfolding recordOf recordedPlace walkEnd endRecord
   record-same d =
-      subst (λ (x : List ℕ). recordOf s ≡ endRecord (s .settings) x (s .bytes) (s .lines) (s .matches) (s .going)) (sym (i .input-is)) (same-done d)
+      subst (λ (x : List ℕ). recordOf s ≡ endRecord (s .walk .settings) x (s .walk .bytes) (s .walk .lines) (s .walk .matches) (s .walk .going)) (sym (i .input-is)) (same-done d)
 
   -- the lines still to come
   abbrev pub later : List (List ℕ)
-  later = lines (s .settings .terminator) (unanswered s w ++ text (s .settings) rest)
+  later = lines (s .walk .settings .terminator) (unanswered s w ++ text (s .walk .settings) rest)
 
   abbrev before : State
-  before = state (s .settings) answers (begun (s .settings)) (i .gone)
+  before = state (s .walk .settings) answers (begun (s .walk .settings)) (i .gone)
 
   -- at the end no line is left, or the walk has stopped
-  pub nothing-left : isOpen (s .input) ≡ false → s .end ≤ s .next → later ≡ []
+  pub nothing-left : isOpen (s .places .input) ≡ false → s .places .end ≤ s .places .next → later ≡ []
   unfolding lines
   nothing-left o l =
       rw (
         none-of-length (unanswered s w) (omega (arith, unanswered-length s w (i .agree) (i .window-is))),
-        ended-text (s .settings) (s .input) rest o (i .input-now),
+        ended-text (s .walk .settings) (s .places .input) rest o (i .input-now),
       )
 
-  pub rows-done : Done s → rows (s .settings) answers before later ≡ []
+  pub rows-done : Done s → rows (s .walk .settings) answers before later ≡ []
   unfolding rows
-  rows-done (stopped h) = rows-stopped (s .settings) answers before later (λ k. h (going-is input answers s w rest count given i ∙ k))
-  rows-done (ended g o l) = ap (rows (s .settings) answers before) (nothing-left o l)
+  rows-done (stopped h) = rows-stopped (s .walk .settings) answers before later (λ k. h (going-is input answers s w rest count given i ∙ k))
+  rows-done (ended g o l) = ap (rows (s .walk .settings) answers before) (nothing-left o l)
 
-  stays-done : Done s → state (s .settings) answers before later ≡ before
+  stays-done : Done s → state (s .walk .settings) answers before later ≡ before
   unfolding state
-  stays-done (stopped h) = state-stopped (s .settings) answers before later (λ k. h (going-is input answers s w rest count given i ∙ k))
-  stays-done (ended g o l) = ap (state (s .settings) answers before) (nothing-left o l)
+  stays-done (stopped h) = state-stopped (s .walk .settings) answers before later (λ k. h (going-is input answers s w rest count given i ∙ k))
+  stays-done (ended g o l) = ap (state (s .walk .settings) answers before) (nothing-left o l)
 
-  pub state-done : Done s → state (s .settings) answers (begun (s .settings)) (lines (s .settings .terminator) (text (s .settings) input)) ≡ before
+  pub state-done : Done s → state (s .walk .settings) answers (begun (s .walk .settings)) (lines (s .walk .settings .terminator) (text (s .walk .settings) input)) ≡ before
   state-done d =
-      ap (state (s .settings) answers (begun (s .settings))) (i .lines-are)
-      ∙ state-append (s .settings) answers (begun (s .settings)) (i .gone) later
+      ap (state (s .walk .settings) answers (begun (s .walk .settings))) (i .lines-are)
+      ∙ state-append (s .walk .settings) answers (begun (s .walk .settings)) (i .gone) later
       ∙ stays-done d

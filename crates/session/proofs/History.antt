@@ -23,17 +23,14 @@ use Rattle.definition.specs.Text.{firstPlace, lines, upTo}
 use Rattle.definition.proofs.Kept.{before≤kept, since-counted, stepRows-most}
 use Rattle.definition.proofs.Lists.{length-lastOf}
 use Rattle.definition.proofs.Terminator.{whole-none}
-use Rattle.session.specs.declared.Answering.{Answering}
-use Rattle.session.specs.declared.Answering.the-variants.{AnswerRefused, Give}
+use Rattle.core.specs.Answer.{AnswerDecision, AnswerRefused, Give, answeringSince, backFrom, beforeRows, belowOneSince, putRows, rowsSince, stateSince, walkNext}
 use Rattle.session.specs.declared.Input.{Input}
 use Rattle.session.specs.declared.Input.the-variants.{Open, Ended, QuitFound}
-use Rattle.session.specs.declared.Offering.{Offering}
-use Rattle.session.specs.declared.Offering.the-variants.{OfferRefused, Idle, Take}
 use Rattle.session.specs.declared.Session.{Session}
 use Rattle.session.specs.declared.Waiting.the-variants.{LineWaits, NoneWaits, WaitingRefused}
 use Rattle.session.specs.Calls as Calls
-use Rattle.session.specs.Calls.{answerAnswer, answerRows, answerSession, answerTable, answered, answeredTable, beforeRows, belowOne, answering, fresh, inputTold, offerAnswer, offerWindow, offered, offeredWindow, offering, opening, putRows, replacedIn, stepped, stored, told, toldSession, waiting}
-use Rattle.session.specs.Held.{backFrom, shown, sinceLines, unanswered, waits}
+use Rattle.session.specs.Calls.{Idle, OfferDecision, OfferRefused, Take, answerAnswer, answerRows, answerSession, answerTable, answered, answeredTable, answering, belowOne, fresh, inputTold, offerAnswer, offerWindow, offered, offeredWindow, offering, opening, placesNext, replacedIn, stored, told, toldSession, waiting}
+use Rattle.session.specs.Held.{shown, sinceLines, unanswered, waits}
 use Rattle.session.specs.Promises.{keptBefore}
 use Rattle.session.specs.Run.{At, Run, Steps, here, offer, answer, ask, refused, tell, atStart, rowsIn}
 use Rattle.session.specs.Sound.{agrees, sound}
@@ -45,7 +42,7 @@ use Rattle.session.proofs.Keeps.{TakenIf, offer-taken, agree-fresh, agr
 use Rattle.session.proofs.Taking.{inv-taken}
 
 -- a refused answer changes nothing
-pub answer-unchanged : (o : Answering) (s : Session) (w table : List ℕ) (hit : Bool) → (answerAnswer o s w hit .refusal ≡ 0 → ⊥)
+pub answer-unchanged : (o : AnswerDecision) (s : Session) (w table : List ℕ) (hit : Bool) → (answerAnswer o s w hit .refusal ≡ 0 → ⊥)
     → (answerAnswer o s w hit .session ≡ s) × (answerAnswer o s w hit .rows ≡ 0) × (answerTable o s w table hit ≡ table)
 answer-unchanged (AnswerRefused k) s w table hit h = (refl, refl, refl)
 answer-unchanged Give s w table hit h = absurd (h refl)
@@ -68,7 +65,7 @@ fitted-none P (x ∷ b) l m e = absurd (cons≢nil (sym e))
 
 inv-fresh : (input : List ℕ) (answers : ℕ → Bool) (c : Settings) (w : List ℕ) → opening c (length w) ≡ 0
     → Inv input answers (fresh c (length w)) w input 0 []
-unfolding unanswered shown sinceLines backFrom trim begun state rows lines flatten
+unfolding unanswered shown stateSince sinceLines backFrom trim begun state rows lines flatten
 inv-fresh input answers c w e =
     record {
       past = [];
@@ -90,9 +87,9 @@ inv-fresh input answers c w e =
       input-now = tt;
     }
 
-pub answerRows-most : (s : Session) (w : List ℕ) (hit : Bool) → length (answerRows s w hit) ≤ s .settings .before + 2
-unfolding answerRows
-answerRows-most s w hit = stepRows-most On (s .settings) (shown s w) _ hit
+pub answerRows-most : (s : Session) (w : List ℕ) (hit : Bool) → length (answerRows s w hit) ≤ s .walk .settings .before + 2
+unfolding answerRows rowsSince shown
+answerRows-most s w hit = stepRows-most On (s .walk .settings) (shown s w) _ hit
 
 rowsIn-table : (rs : List Row) (table : List ℕ) → rowsIn (length rs) (putRows rs table) ≡ rs
 unfolding putRows
@@ -110,9 +107,9 @@ waiting-line s w = go (sound s (length w)) (waits s w)
 
 module _ (input : List ℕ) (answers : ℕ → Bool) (s : Session) (w rest : List ℕ) (count : ℕ) (given : List Row)
     (i : Inv input answers s w rest count given) where
-  -- # Offering
+  -- # OfferDecision
 
-  inv-offer-of : (k : ℕ) (o : Offering) → TakenIf s w (take k rest) o
+  inv-offer-of : (k : ℕ) (o : OfferDecision) → TakenIf s w (take k rest) o
       → Inv input answers (offerAnswer o s w (take k rest) .session) (offerWindow o s w (take k rest))
       (drop (offerAnswer o s w (take k rest) .taken) rest) count given
   inv-offer-of k (OfferRefused m) t = i
@@ -124,37 +121,37 @@ module _ (input : List ℕ) (answers : ℕ → Bool) (s : Session) (w rest : Lis
   unfolding offered offeredWindow
   inv-offer k = inv-offer-of k (offering s w (take k rest)) (offer-taken s w (take k rest))
 
-  -- # Answering
+  -- # AnswerDecision
 
   -- no before row's number falls below 1
-  since-le : length (lastOf (s .settings .before) (shown s w .since)) ≤ s .lines
-  unfolding trim shown
+  since-le : length (lastOf (s .walk .settings .before) (shown s w .since)) ≤ s .walk .lines
+  unfolding trim shown stateSince sinceLines
   since-le =
-      let c = s .settings in
+      let c = s .walk .settings in
       let b = state c answers (begun c) (i .gone) in
       let kept : length (lastOf (keptLines c) (shown s w .since)) ≡ length (lastOf (keptLines c) (b .since)) = ap (λ (t : State). length (t .since)) (i .state-is) in
-      let lines : s .lines ≡ b .lines = ap (λ (t : State). t .lines) (i .state-is) in
+      let lines : s .walk .lines ≡ b .lines = ap (λ (t : State). t .lines) (i .state-is) in
       let counted = since-counted c answers (begun c) (i .gone) (begun-counted c) in
       omega (arith, kept, lines, counted, before≤kept c, length-lastOf (c .before) (shown s w .since), length-lastOf (keptLines c) (shown s w .since), length-lastOf (keptLines c) (b .since))
 
-  before-le : (f : Fate) → beforeRows f (s .settings) (shown s w) ≤ s .lines
+  before-le : (f : Fate) → beforeRows f (s .walk .settings) (shown s w) ≤ s .walk .lines
   before-le Match = since-le
   before-le After = omega arith
   before-le Other = omega arith
   before-le NoRow = omega arith
 
   pub not-below : (hit : Bool) → belowOne s w hit ≡ false
-  unfolding belowOne
-  not-below hit = le-ltb (s .lines) (beforeRows (fateOf (s .settings) (shown s w) hit) (s .settings) (shown s w)) (before-le (fateOf (s .settings) (shown s w) hit))
+  unfolding belowOne belowOneSince shown
+  not-below hit = le-ltb (s .walk .lines) (beforeRows (fateOf (s .walk .settings) (shown s w) hit) (s .walk .settings) (shown s w)) (before-le (fateOf (s .walk .settings) (shown s w) hit))
 
   -- with room for B + 2 rows the answer to a waiting line is served
-  pub answer-gives : (table : ℕ) (hit : Bool) → waits s w ≡ true → rowSize * (s .settings .before + 2) ≤ table → answering s w table hit ≡ Give
-  unfolding answering
+  pub answer-gives : (table : ℕ) (hit : Bool) → waits s w ≡ true → rowSize * (s .walk .settings .before + 2) ≤ table → answering s w table hit ≡ Give
+  unfolding answering answeringSince belowOne answerRows
   answer-gives table hit v r =
       let few = le-ltb table (rowSize * length (answerRows s w hit)) (omega (arith, r, answerRows-most s w hit)) in
       rw (sound-now input answers s w rest count given i, v, not-below hit, few)
 
-  pub inv-answer : (table : List ℕ) → waiting s w ≡ LineWaits → rowSize * (s .settings .before + 2) ≤ length table
+  pub inv-answer : (table : List ℕ) → waiting s w ≡ LineWaits → rowSize * (s .walk .settings .before + 2) ≤ length table
       → Inv input answers (answered s w table (answers (count + 1)) .session) w rest (count + 1)
       (given ++ rowsIn (answered s w table (answers (count + 1)) .rows) (answeredTable s w table (answers (count + 1))))
   unfolding answered answeredTable
@@ -171,15 +168,15 @@ module _ (input : List ℕ) (answers : ℕ → Bool) (s : Session) (w rest : Lis
 
   -- # Telling the end
 
-  told-now : (g : Going) (n : Input) → (g ≡ On → n ≡ Open → rest ≡ []) → InputNow (s .settings) n rest → InputNow (s .settings) (inputTold g n) rest
+  told-now : (g : Going) (n : Input) → (g ≡ On → n ≡ Open → rest ≡ []) → InputNow (s .walk .settings) n rest → InputNow (s .walk .settings) (inputTold g n) rest
   told-now On Open e h = e refl refl
   told-now On Ended e h = h
   told-now On QuitFound e h = h
   told-now LimitMet n e h = h
   told-now NonmatchMet n e h = h
 
-  inv-toldSession : (s .going ≡ On → s .input ≡ Open → rest ≡ []) → Inv input answers (toldSession s) w rest count given
-  unfolding toldSession unanswered shown sinceLines
+  inv-toldSession : (s .walk .going ≡ On → s .places .input ≡ Open → rest ≡ []) → Inv input answers (toldSession s) w rest count given
+  unfolding toldSession unanswered shown stateSince sinceLines
   inv-toldSession e =
       record {
         past = i .past;
@@ -198,10 +195,10 @@ module _ (input : List ℕ) (answers : ℕ → Bool) (s : Session) (w rest : Lis
         whole = i .whole;
         fitted = i .fitted;
         replaced-is = i .replaced-is;
-        input-now = told-now (s .going) (s .input) e (i .input-now);
+        input-now = told-now (s .walk .going) (s .places .input) e (i .input-now);
       }
 
-  pub inv-told : (s .going ≡ On → s .input ≡ Open → rest ≡ []) → Inv input answers (told s .session) w rest count given
+  pub inv-told : (s .walk .going ≡ On → s .places .input ≡ Open → rest ≡ []) → Inv input answers (told s .session) w rest count given
   unfolding told
   inv-told e =
       subst (λ b. Inv input answers (cond b (toldSession s) s) w rest count given) (sym (agrees-of s (i .agree))) (inv-toldSession e)
@@ -240,26 +237,26 @@ join answers from a _ t (tell {a = b} e u) = tell e (join answers from a b t u)
 
 -- # Settings and window length stay
 
-offer-settings : (o : Offering) (s : Session) (w piece : List ℕ)
-    → (offerAnswer o s w piece .session .settings ≡ s .settings) × (offerAnswer o s w piece .session .window ≡ s .window)
+offer-settings : (o : OfferDecision) (s : Session) (w piece : List ℕ)
+    → (offerAnswer o s w piece .session .walk .settings ≡ s .walk .settings) × (offerAnswer o s w piece .session .places .window ≡ s .places .window)
 unfolding stored
 offer-settings (OfferRefused k) s w piece = (refl, refl)
 offer-settings Idle s w piece = (refl, refl)
 offer-settings (Take n q) s w piece = (refl, refl)
 
-answer-settings : (o : Answering) (s : Session) (w : List ℕ) (hit : Bool)
-    → (answerAnswer o s w hit .session .settings ≡ s .settings) × (answerAnswer o s w hit .session .window ≡ s .window)
-unfolding answerSession stepped
+answer-settings : (o : AnswerDecision) (s : Session) (w : List ℕ) (hit : Bool)
+    → (answerAnswer o s w hit .session .walk .settings ≡ s .walk .settings) × (answerAnswer o s w hit .session .places .window ≡ s .places .window)
+unfolding answerSession placesNext walkNext
 answer-settings (AnswerRefused k) s w hit = (refl, refl)
 answer-settings Give s w hit = (refl, refl)
 
-told-settings : (b : Bool) (s : Session) → (cond b (toldSession s) s .settings ≡ s .settings) × (cond b (toldSession s) s .window ≡ s .window)
+told-settings : (b : Bool) (s : Session) → (cond b (toldSession s) s .walk .settings ≡ s .walk .settings) × (cond b (toldSession s) s .places .window ≡ s .places .window)
 unfolding toldSession
 told-settings true s = (refl, refl)
 told-settings false s = (refl, refl)
 
 pub steps-stay : (answers : ℕ → Bool) (from a : At) → Steps answers from a
-    → (a .session .settings ≡ from .session .settings) × (a .session .window ≡ from .session .window)
+    → (a .session .walk .settings ≡ from .session .walk .settings) × (a .session .places .window ≡ from .session .places .window)
 unfolding offered answered told
 steps-stay answers from _ here = (refl, refl)
 steps-stay answers from _ (offer {a = b} k t) =
@@ -280,9 +277,9 @@ steps-stay answers from _ (tell {a = b} e t) =
     let o = told-settings (agrees (b .session)) (b .session) in
     (o .0 ∙ h .0, o .1 ∙ h .1)
 
-pub run-settings : (c : Settings) (input : List ℕ) (answers : ℕ → Bool) (a : At) → Run c input answers a → a .session .settings ≡ c
+pub run-settings : (c : Settings) (input : List ℕ) (answers : ℕ → Bool) (a : At) → Run c input answers a → a .session .walk .settings ≡ c
 run-settings c input answers a r =
-    steps-stay answers (atStart c (r .window) input) a (r .steps) .0 ∙ ap (λ (s : Session). s .settings) (served-fresh c (length (r .window)) (r .served))
+    steps-stay answers (atStart c (r .window) input) a (r .steps) .0 ∙ ap (λ (s : Session). s .walk .settings) (served-fresh c (length (r .window)) (r .served))
 
 -- a run carried on is a run
 pub run-on : (c : Settings) (input : List ℕ) (answers : ℕ → Bool) (a b : At) → Run c input answers a → Steps answers a b → Run c input answers b

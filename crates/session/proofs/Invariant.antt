@@ -34,25 +34,25 @@ pub record Inv (input : List ℕ) (answers : ℕ → Bool) (s : Session) (w rest
   pub past : List ℕ
   pub gone : List (List ℕ)
   pub agree : Agree s
-  pub window-is : length w ≡ s .window
+  pub window-is : length w ≡ s .places .window
   pub input-is : input ≡ past ++ rest
-  pub uncut : Uncut (s .settings) past
-  pub text-is : text (s .settings) past ≡ flatten gone ++ unanswered s w
-  pub bytes-is : s .bytes ≡ length (flatten gone)
-  pub lines-is : s .lines ≡ length gone
+  pub uncut : Uncut (s .walk .settings) past
+  pub text-is : text (s .walk .settings) past ≡ flatten gone ++ unanswered s w
+  pub bytes-is : s .walk .bytes ≡ length (flatten gone)
+  pub lines-is : s .walk .lines ≡ length gone
   pub count-is : count ≡ length gone
-  pub state-is : trim (s .settings) (shown s w) ≡ trim (s .settings) (state (s .settings) answers (begun (s .settings)) gone)
-  pub rows-are : given ≡ rows (s .settings) answers (begun (s .settings)) gone
-  pub lines-are : lines (s .settings .terminator) (text (s .settings) input)
-      ≡ gone ++ lines (s .settings .terminator) (unanswered s w ++ text (s .settings) rest)
-  pub whole : 0 < length (unanswered s w ++ text (s .settings) rest) → Whole (s .settings .terminator) (part (s .floor) (s .next) w)
-  pub fitted : Fitted (s .settings) answers (s .window) gone
-  pub replaced-is : s .replaced ≡ replacedIn (s .settings .binary) (s .settings .terminator) 0 past
-  pub input-now : InputNow (s .settings) (s .input) rest
+  pub state-is : trim (s .walk .settings) (shown s w) ≡ trim (s .walk .settings) (state (s .walk .settings) answers (begun (s .walk .settings)) gone)
+  pub rows-are : given ≡ rows (s .walk .settings) answers (begun (s .walk .settings)) gone
+  pub lines-are : lines (s .walk .settings .terminator) (text (s .walk .settings) input)
+      ≡ gone ++ lines (s .walk .settings .terminator) (unanswered s w ++ text (s .walk .settings) rest)
+  pub whole : 0 < length (unanswered s w ++ text (s .walk .settings) rest) → Whole (s .walk .settings .terminator) (part (s .places .floor) (s .places .next) w)
+  pub fitted : Fitted (s .walk .settings) answers (s .places .window) gone
+  pub replaced-is : s .places .replaced ≡ replacedIn (s .walk .settings .binary) (s .walk .settings .terminator) 0 past
+  pub input-now : InputNow (s .walk .settings) (s .places .input) rest
 
-pub unanswered-length : (s : Session) (w : List ℕ) → Agree s → length w ≡ s .window → length (unanswered s w) ≡ s .end - s .next
+pub unanswered-length : (s : Session) (w : List ℕ) → Agree s → length w ≡ s .places .window → length (unanswered s w) ≡ s .places .end - s .places .next
 unfolding unanswered
-unanswered-length s w a size = part-length (s .next) (s .end) w (a .next-end) (omega (arith, a, size))
+unanswered-length s w a size = part-length (s .places .next) (s .places .end) w (a .places .next-end) (omega (arith, a, size))
 
 module _ (input : List ℕ) (answers : ℕ → Bool) (s : Session) (w rest : List ℕ) (count : ℕ) (given : List Row)
     (i : Inv input answers s w rest count given) where
@@ -70,4 +70,4 @@ module _ (input : List ℕ) (answers : ℕ → Bool) (s : Session) (w rest : Lis
 
   pub sound-now : sound s (length w) ≡ true
   unfolding sound
-  sound-now = rw (agrees-of s (i .agree), eq-eqb (length w) (s .window) (i .window-is))
+  sound-now = rw (agrees-of s (i .agree), eq-eqb (length w) (s .places .window) (i .window-is))

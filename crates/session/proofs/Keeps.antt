@@ -20,14 +20,12 @@ use Rattle.definition.specs.Definition.{limitReached, selected}
 use Rattle.definition.specs.Rows.{rowSize}
 use Rattle.definition.specs.State.{State, fateOf, stateNext}
 use Rattle.definition.proofs.Fates.{FateCase, selects, owes, passes, skips, fate-case, selected-below}
-use Rattle.session.specs.declared.Answering.{Answering}
-use Rattle.session.specs.declared.Answering.the-variants.{AnswerRefused, Give}
-use Rattle.session.specs.declared.Offering.{Offering}
-use Rattle.session.specs.declared.Offering.the-variants.{OfferRefused, Idle, Take}
+use Rattle.core.specs.Answer.{AnswerDecision, AnswerRefused, Give, getsRow, stateSince}
+use Rattle.core.proofs.Keeps.{agree-fewer, agree-next, agree-start, sinceNow, waiting-some, waits-why, Waits}
 use Rattle.session.specs.declared.Session.{Session}
-use Rattle.session.specs.Calls.{answerAnswer, answerRows, answerSession, answered, answering, beforeQuit, fitting, fresh, getsRow, offerAnswer, offered, offering, opened, opening, stepped, stored, taking, told, toldSession}
-use Rattle.session.specs.Held.{heldBytes, isOn, isOpen, keptBytes, keptFrom, lineBytes, lineLength, shown, unanswered, waits}
-use Rattle.session.specs.Sound.{Agree, agrees, sound, takenBytes, withinLimit}
+use Rattle.session.specs.Calls.{Idle, OfferDecision, OfferRefused, Take, answerAnswer, answerRows, answerSession, answered, answering, beforeQuit, fitting, fresh, offerAnswer, offered, offering, opened, opening, placesNext, stored, taking, told, toldSession}
+use Rattle.session.specs.Held.{heldBytes, isOpen, keptBytes, keptFrom, lineLength, shown, since, unanswered, waits}
+use Rattle.session.specs.Sound.{Agree, PlacesAgree, agrees, aheadBytes, sinceBytes, sound, takenBytes}
 use Rattle.session.proofs.Agree.{agree-of, agrees-of}
 use Rattle.session.proofs.Cases.{OfferCase, unsound, idling, quits, sized, full, takes, offer-case, AnswerCase, few, gives, none, below, answer-case}
 use Rattle.session.proofs.Cases as Cases
@@ -37,9 +35,9 @@ use Rattle.session.proofs.Parts.{kept-le}
 
 -- what an offer takes has room in the window and in the size
 pub record Room (s : Session) (w piece : List ℕ) (n : ℕ) : Type 0 where
-  pub kept : keptBytes s w ≤ s .next - s .floor
-  pub window : keptBytes s w + (s .end - s .next) + n ≤ s .window
-  pub size : s .bytes + (s .end - s .next) + n ≤ maxInput
+  pub kept : keptBytes s w ≤ s .places .next - s .places .floor
+  pub window : keptBytes s w + (s .places .end - s .places .next) + n ≤ s .places .window
+  pub size : s .walk .bytes + (s .places .end - s .places .next) + n ≤ maxInput
   pub quit : n ≤ beforeQuit s piece
 
 pub fitting-room : (s : Session) (w piece : List ℕ) → Agree s → Room s w piece (fitting s w piece)
@@ -48,51 +46,31 @@ fitting-room s w piece a =
     let k = kept-le s w in
     record { kept = k; window = omega arith; size = omega arith; quit = omega arith }
 
-owed-kept : (left floor next kept : ℕ) → (eqb left 0 || eqb floor next) ≡ true → kept ≤ next - floor → (eqb left 0 || eqb 0 kept) ≡ true
-owed-kept left floor next kept e h = go (eqb left 0) (eqb floor next) refl e
-  where
-    go : (b d : Bool) → eqb floor next ≡ d → (b || d) ≡ true → (b || eqb 0 kept) ≡ true
-    go true d k e = refl
-    go false true k e = eq-eqb 0 kept (omega (arith, eqb-true floor next k))
-    go false false k e = absurd (false≢true e)
-
 pub agree-stored : (s : Session) (w piece : List ℕ) (n : ℕ) (quit : Bool) → Agree s → Room s w piece n → Agree (stored s w piece n quit)
 unfolding stored keptFrom
 agree-stored s w piece n quit a r =
-    let next : s .next - (s .next - keptBytes s w) ≡ keptBytes s w = omega arith in
     record {
-      set = a .set;
-      some = a .some;
-      most = a .most;
-      floor-next = omega arith;
-      next-end = omega arith;
-      end-window = omega arith;
-      back = omega arith;
-      size = omega arith;
-      counted = a .counted;
-      matched = a .matched;
-      limited = a .limited;
-      left-after = a .left-after;
-      owed = rw next (owed-kept (s .left) (s .floor) (s .next) (keptBytes s w) (a .owed) (r .kept));
+      places = record { some = a .places .some; most = a .places .most; floor-next = omega arith; next-end = omega arith; end-window = omega arith };
+      walk = agree-fewer (s .walk) (sinceBytes s) (aheadBytes s) _ _ (a .walk) (omega (arith, r .kept)) (omega arith);
     }
 
 -- a call that sees a sound session
 pub sound-agrees : (s : Session) (n : ℕ) → sound s n ≡ true → Agree s
 unfolding sound
-sound-agrees s n e = agree-of s (and-eq-true-iff (agrees s) (eqb n (s .window)) .0 e .0)
+sound-agrees s n e = agree-of s (and-eq-true-iff (agrees s) (eqb n (s .places .window)) .0 e .0)
 
-pub sound-window : (s : Session) (n : ℕ) → sound s n ≡ true → n ≡ s .window
+pub sound-window : (s : Session) (n : ℕ) → sound s n ≡ true → n ≡ s .places .window
 unfolding sound
-sound-window s n e = eqb-true n (s .window) (and-eq-true-iff (agrees s) (eqb n (s .window)) .0 e .1)
+sound-window s n e = eqb-true n (s .places .window) (and-eq-true-iff (agrees s) (eqb n (s .places .window)) .0 e .1)
 
 -- what a decision to take implies; the others imply nothing
 pub record Taken (s : Session) (w piece : List ℕ) (n : ℕ) (quit : Bool) : Type 0 where
   pub agree : Agree s
-  pub size : length w ≡ s .window
+  pub size : length w ≡ s .places .window
   pub room : Room s w piece n
   pub flag : (eqb n (beforeQuit s piece) && ltb n (length piece)) ≡ quit
 
-abbrev pub TakenIf : Session → List ℕ → List ℕ → Offering → Type 0
+abbrev pub TakenIf : Session → List ℕ → List ℕ → OfferDecision → Type 0
 TakenIf s w piece (OfferRefused k) = Unit {0}
 TakenIf s w piece Idle = Unit {0}
 TakenIf s w piece (Take n quit) = Taken s w piece n quit
@@ -107,7 +85,7 @@ taking-taken s w piece e =
       flag = refl;
     }
 
-taken-case : (s : Session) (w piece : List ℕ) (o : Offering) → OfferCase s w piece o → TakenIf s w piece o
+taken-case : (s : Session) (w piece : List ℕ) (o : OfferDecision) → OfferCase s w piece o → TakenIf s w piece o
 taken-case s w piece _ (unsound e) = tt
 taken-case s w piece _ (idling e i) = tt
 taken-case s w piece _ (quits e i q) = taking-taken s w piece e
@@ -118,7 +96,7 @@ taken-case s w piece _ (takes p h v) = taking-taken s w piece (p .0)
 pub offer-taken : (s : Session) (w piece : List ℕ) → TakenIf s w piece (offering s w piece)
 offer-taken s w piece = taken-case s w piece _ (offer-case s w piece)
 
-agree-offer-of : (s : Session) (w piece : List ℕ) (o : Offering) → TakenIf s w piece o → Agree s → Agree (offerAnswer o s w piece .session)
+agree-offer-of : (s : Session) (w piece : List ℕ) (o : OfferDecision) → TakenIf s w piece o → Agree s → Agree (offerAnswer o s w piece .session)
 agree-offer-of s w piece (OfferRefused k) t a = a
 agree-offer-of s w piece Idle t a = a
 agree-offer-of s w piece (Take n quit) t a = agree-stored s w piece n quit a (t .room)
@@ -129,102 +107,48 @@ agree-offer s w piece a = agree-offer-of s w piece (offering s w piece) (offer-t
 
 -- # Answering
 
-pub is-on : (g : Going) → isOn g ≡ true → g ≡ On
-is-on On e = refl
-is-on LimitMet e = absurd (false≢true e)
-is-on NonmatchMet e = absurd (false≢true e)
-
 -- why a line waits
-abbrev pub Waits : Session → List ℕ → Type 0
-Waits s w =
-    (s .going ≡ On)
-    × ((lineBytes s w < length (unanswered s w)) ⊎ ((isOpen (s .input) ≡ false) × (0 < length (unanswered s w))))
-
-pub waits-why : (s : Session) (w : List ℕ) → waits s w ≡ true → Waits s w
+pub why-waits : (s : Session) (w : List ℕ) → waits s w ≡ true → Waits (s .walk) (isOpen (s .places .input)) (unanswered s w)
 unfolding waits
-waits-why s w e =
-    let n = length (unanswered s w) in
-    let ended = not (isOpen (s .input)) && ltb 0 n in
-    let both = and-eq-true-iff (isOn (s .going)) (ltb (lineBytes s w) n || ended) .0 e in
-    (is-on (s .going) (both .0), go (ltb (lineBytes s w) n) refl (both .1))
-  where
-    go : (b : Bool) → ltb (lineBytes s w) (length (unanswered s w)) ≡ b → (b || (not (isOpen (s .input)) && ltb 0 (length (unanswered s w)))) ≡ true
-        → (lineBytes s w < length (unanswered s w)) ⊎ ((isOpen (s .input) ≡ false) × (0 < length (unanswered s w)))
-    go true k e = inl (ltb-true (lineBytes s w) (length (unanswered s w)) k)
-    go false k e =
-        let both = and-eq-true-iff (not (isOpen (s .input))) (ltb 0 (length (unanswered s w))) .0 e in
-        inr (not-true (isOpen (s .input)) (both .0), ltb-true 0 (length (unanswered s w)) (both .1))
+why-waits s w e = waits-why (s .walk) (isOpen (s .places .input)) (unanswered s w) e
 
 -- a waiting line has a byte, and ends where the held bytes do at the latest
 pub waiting-length : (s : Session) (w : List ℕ) → waits s w ≡ true → 0 < lineLength s w
-unfolding lineLength
-waiting-length s w e = ⊎-elim (λ h. omega arith) (λ h. omega arith) (waits-why s w e .1)
+unfolding waits lineLength
+waiting-length s w e = waiting-some (s .walk) (isOpen (s .places .input)) (unanswered s w) e
 
-pub line-le : (s : Session) (w : List ℕ) → lineLength s w ≤ s .end - s .next
+pub line-le : (s : Session) (w : List ℕ) → lineLength s w ≤ s .places .end - s .places .next
 unfolding lineLength unanswered
-line-le s w = omega (arith, length-take (s .end - s .next) (drop (s .next) w))
-
-within-next : (l : Limit) (m : ℕ) → limitReached l m ≡ false → withinLimit l (m + 1) ≡ true
-within-next Unlimited m e = refl
-within-next (Most n) m e = le-leb (m + 1) n (omega (arith, leb-false n m e))
+line-le s w = omega (arith, length-take (s .places .end - s .places .next) (drop (s .places .next) w))
 
 -- where the floor comes to lie
-floor-next : (row : Bool) (floor next len bytes : ℕ) → floor ≤ next → next - floor ≤ bytes
-    → (cond row (next + len) floor ≤ next + len) × (next + len - cond row (next + len) floor ≤ bytes + len)
-floor-next true floor next len bytes h k = (omega arith, omega arith)
-floor-next false floor next len bytes h k = (omega arith, omega arith)
-
-owed-next : (row : Bool) (left next floor : ℕ) → (row ≡ true) ⊎ (left ≡ 0) → (eqb left 0 || eqb (cond row next floor) next) ≡ true
-owed-next row left next floor (inl e) = rw (e, eq-eqb next next refl) (or-true (eqb left 0))
-owed-next row left next floor (inr e) = rw (eq-eqb left 0 e)
-
-agree-stepped : (s : Session) (t : State) (len : ℕ) (row : Bool) → Agree s → 0 < len → len ≤ s .end - s .next
-    → t .bytes ≡ s .bytes + len → t .lines ≡ s .lines + 1 → t .matches ≤ s .matches + 1 → withinLimit (s .settings .limit) (t .matches) ≡ true
-    → t .afterLeft ≤ s .settings .after → (row ≡ true) ⊎ (t .afterLeft ≡ 0) → Agree (stepped s t len row)
-unfolding stepped
-agree-stepped s t len row a h k bytes count matches limited left owed =
-    let floor = floor-next row (s .floor) (s .next) len (s .bytes) (a .floor-next) (a .back) in
-    record {
-      set = a .set;
-      some = a .some;
-      most = a .most;
-      floor-next = floor .0;
-      next-end = omega arith;
-      end-window = a .end-window;
-      back = rw bytes (floor .1);
-      size = omega arith;
-      counted = omega arith;
-      matched = omega arith;
-      limited = limited;
-      left-after = left;
-      owed = owed-next row (t .afterLeft) (s .next + len) (s .floor) owed;
-    }
-
--- the numbers of the definition's step, by what becomes of the line
-agree-fate : (s : Session) (w : List ℕ) (hit : Bool) (len : ℕ) (f : Fate) → FateCase (s .settings) (selected (s .settings) (s .matches) hit) (s .left) f
-    → Agree s → 0 < len → len ≤ s .end - s .next → Agree (stepped s (stateNext f (s .settings) (shown s w) len) len (getsRow f))
-unfolding stateNext shown
-agree-fate s w hit len _ (selects e) a h k =
-    agree-stepped s (stateNext Match (s .settings) (shown s w) len) len true a h k refl refl (omega arith)
-    (within-next (s .settings .limit) (s .matches) (selected-below (s .settings) (s .matches) hit e)) (omega arith) (inl refl)
-agree-fate s w hit len _ (owes e l) a h k =
-    agree-stepped s (stateNext After (s .settings) (shown s w) len) len true a h k refl refl (omega arith) (a .limited) (omega arith) (inl refl)
-agree-fate s w hit len _ (passes e l p) a h k =
-    agree-stepped s (stateNext Other (s .settings) (shown s w) len) len true a h k refl refl (omega arith) (a .limited) (a .left-after) (inl refl)
-agree-fate s w hit len _ (skips e l p) a h k =
-    agree-stepped s (stateNext NoRow (s .settings) (shown s w) len) len false a h k refl refl (omega arith) (a .limited) (a .left-after) (inr l)
+floor-next : (row : Bool) (floor next len : ℕ) → floor ≤ next
+    → (cond row (next + len) floor ≤ next + len) × (next + len - cond row (next + len) floor ≡ sinceNow row (next - floor) len)
+floor-next true floor next len h = (omega arith, omega arith)
+floor-next false floor next len h = (omega arith, omega arith)
 
 pub agree-given : (s : Session) (w : List ℕ) (hit : Bool) → Agree s → waits s w ≡ true → Agree (answerSession s w hit)
-unfolding answerSession fateOf shown
+unfolding answerSession placesNext shown
 agree-given s w hit a v =
-    agree-fate s w hit (lineLength s w) _ (fate-case (s .settings) (selected (s .settings) (s .matches) hit) (s .left)) a (waiting-length s w v) (line-le s w)
+    let len = lineLength s w in
+    let fits = line-le s w in
+    let row = getsRow (fateOf (s .walk .settings) (stateSince (s .walk) (since s w)) hit) in
+    let floor = floor-next row (s .places .floor) (s .places .next) len (a .places .floor-next) in
+    let ahead : s .places .end - (s .places .next + len) ≡ aheadBytes s - len = omega arith in
+    record {
+      places =
+          record { some = a .places .some; most = a .places .most; floor-next = floor .0; next-end = omega arith; end-window = a .places .end-window };
+      walk =
+          rw (floor .1, ahead)
+          (agree-next (s .walk) (sinceBytes s) (aheadBytes s) len (a .walk) (waiting-length s w v) fits (since s w) hit);
+    }
 
 -- what a decision to give implies
-abbrev pub GivenIf : Session → List ℕ → ℕ → Bool → Answering → Type 0
+abbrev pub GivenIf : Session → List ℕ → ℕ → Bool → AnswerDecision → Type 0
 GivenIf s w table hit (AnswerRefused k) = Unit {0}
 GivenIf s w table hit Give = (waits s w ≡ true) × (rowSize * length (answerRows s w hit) ≤ table)
 
-given-case : (s : Session) (w : List ℕ) (table : ℕ) (hit : Bool) (o : Answering) → AnswerCase s w table hit o → GivenIf s w table hit o
+given-case : (s : Session) (w : List ℕ) (table : ℕ) (hit : Bool) (o : AnswerDecision) → AnswerCase s w table hit o → GivenIf s w table hit o
 given-case s w table hit _ (Cases.unsound e) = tt
 given-case s w table hit _ (none e v) = tt
 given-case s w table hit _ (below e v b) = tt
@@ -234,7 +158,7 @@ given-case s w table hit _ (gives e v b h) = (v, h)
 pub answer-given : (s : Session) (w : List ℕ) (table : ℕ) (hit : Bool) → GivenIf s w table hit (answering s w table hit)
 answer-given s w table hit = given-case s w table hit _ (answer-case s w table hit)
 
-agree-answer-of : (s : Session) (w : List ℕ) (table : ℕ) (hit : Bool) (o : Answering) → GivenIf s w table hit o → Agree s
+agree-answer-of : (s : Session) (w : List ℕ) (table : ℕ) (hit : Bool) (o : AnswerDecision) → GivenIf s w table hit o → Agree s
     → Agree (answerAnswer o s w hit .session)
 agree-answer-of s w table hit (AnswerRefused k) g a = a
 agree-answer-of s w table hit Give g a = agree-given s w hit a (g .0)
@@ -249,29 +173,15 @@ agree-answer s w table hit a =
 pub agree-toldSession : (s : Session) → Agree s → Agree (toldSession s)
 unfolding toldSession
 agree-toldSession s a =
+    let p = a .places in
     record {
-      set = a .set;
-      some = a .some;
-      most = a .most;
-      floor-next = a .floor-next;
-      next-end = a .next-end;
-      end-window = a .end-window;
-      back = a .back;
-      size = a .size;
-      counted = a .counted;
-      matched = a .matched;
-      limited = a .limited;
-      left-after = a .left-after;
-      owed = a .owed;
+      places = record { some = p .some; most = p .most; floor-next = p .floor-next; next-end = p .next-end; end-window = p .end-window };
+      walk = a .walk;
     }
 
 pub agree-told : (s : Session) → Agree s → Agree (told s .session)
 unfolding told
 agree-told s a = rw (agrees-of s a) (agree-toldSession s a)
-
-within-none : (l : Limit) → withinLimit l 0 ≡ true
-within-none Unlimited = refl
-within-none (Most n) = le-leb 0 n (omega arith)
 
 pub opening-why : (c : Settings) (n : ℕ) → opening c n ≡ 0 → (allowed c ≡ true) × (0 < n) × (n ≤ maxWindow)
 unfolding opening
@@ -288,19 +198,8 @@ pub agree-fresh : (c : Settings) (n : ℕ) → opening c n ≡ 0 → Agree (fres
 agree-fresh c n e =
     let why = opening-why c n e in
     record {
-      set = why .0;
-      some = why .1;
-      most = why .2;
-      floor-next = omega arith;
-      next-end = omega arith;
-      end-window = omega arith;
-      back = omega arith;
-      size = omega arith;
-      counted = omega arith;
-      matched = omega arith;
-      limited = within-none (c .limit);
-      left-after = omega arith;
-      owed = refl;
+      places = record { some = why .1; most = why .2; floor-next = omega arith; next-end = omega arith; end-window = omega arith };
+      walk = agree-start c 0 (why .0) (omega arith);
     }
 
 pub served-fresh : (c : Settings) (n : ℕ) → opened c n .refusal ≡ 0 → opened c n .session ≡ fresh c n

@@ -10,6 +10,7 @@ pub mod History
 pub mod Finish
 pub mod Carry
 pub mod Room
-pub mod Promises
 pub mod Caller
+pub mod Soon
+pub mod Promises
 pub mod Driven

@@ -9,8 +9,9 @@ use Rattle.definition.specs.Definition.{bytesOf, lastOf, keptLines}
 use Rattle.definition.specs.Text.{part}
 use Rattle.definition.proofs.Lists.{flatten-append}
 use Rattle.definition.proofs.Terminator.{flatten-last}
+use Rattle.core.specs.Answer.{backFrom}
 use Rattle.session.specs.declared.Session.{Session}
-use Rattle.session.specs.Held.{backFrom, keptBytes, keptFrom, sinceLines}
+use Rattle.session.specs.Held.{keptBytes, keptFrom, sinceLines}
 
 pub part-length : (a e : ℕ) (w : List ℕ) → a ≤ e → e ≤ length w → length (part a e w) ≡ e - a
 part-length a e w h k = omega (arith, length-take (e - a) (drop a w), length-drop a w)
@@ -46,63 +47,23 @@ part-drop a e n w =
 
 -- # The kept part
 
-pub kept-le : (s : Session) (w : List ℕ) → keptBytes s w ≤ s .next - s .floor
+pub kept-le : (s : Session) (w : List ℕ) → keptBytes s w ≤ s .places .next - s .places .floor
 unfolding keptBytes sinceLines
 kept-le s w =
     omega (
       arith,
-      flatten-last (keptLines (s .settings)) (s .settings .terminator) (part (s .floor) (s .next) w) .0,
-      length-take (s .next - s .floor) (drop (s .floor) w),
+      flatten-last (keptLines (s .walk .settings)) (s .walk .settings .terminator) (part (s .places .floor) (s .places .next) w) .0,
+      length-take (s .places .next - s .places .floor) (drop (s .places .floor) w),
     )
 
 -- it is what the window holds before the first unanswered byte
-pub kept-part : (s : Session) (w : List ℕ) → s .floor ≤ s .next → s .next ≤ length w
-    → part (keptFrom s w) (s .next) w ≡ flatten (lastOf (keptLines (s .settings)) (sinceLines s w))
+pub kept-part : (s : Session) (w : List ℕ) → s .places .floor ≤ s .places .next → s .places .next ≤ length w
+    → part (keptFrom s w) (s .places .next) w ≡ flatten (lastOf (keptLines (s .walk .settings)) (sinceLines s w))
 unfolding keptFrom keptBytes sinceLines
 kept-part s w h k =
-    let x = part (s .floor) (s .next) w in
-    let f = flatten (lastOf (keptLines (s .settings)) (sinceLines s w)) in
-    let last = flatten-last (keptLines (s .settings)) (s .settings .terminator) x in
-    let size : length x ≡ s .next - s .floor = part-length (s .floor) (s .next) w h k in
-    let from : s .floor + (length x - length f) ≡ s .next - length f = omega (arith, last .0) in
-    ap (λ a. part a (s .next) w) (sym from) ∙ sym (part-drop (s .floor) (s .next) (length x - length f) w) ∙ last .1
-
--- # Lines numbered back from a place
-
-pub backFrom-drop : (j o n : ℕ) (ls : List (List ℕ)) → drop j (backFrom o n ls) ≡ backFrom o n (drop j ls)
-unfolding backFrom
-backFrom-drop zero o n ls = refl
-backFrom-drop (suc j) o n [] = refl
-backFrom-drop (suc j) o n (l ∷ ls) = backFrom-drop j o n ls
-
-pub length-backFrom : (o n : ℕ) (ls : List (List ℕ)) → length (backFrom o n ls) ≡ length ls
-unfolding backFrom
-length-backFrom o n [] = refl
-length-backFrom o n (l ∷ ls) = ap suc (length-backFrom o n ls)
-
-pub backFrom-last : (k o n : ℕ) (ls : List (List ℕ)) → lastOf k (backFrom o n ls) ≡ backFrom o n (lastOf k ls)
-unfolding lastOf
-backFrom-last k o n ls = rw (length-backFrom o n ls) (backFrom-drop (length ls - k) o n ls)
-
-pub backFrom-bytes : (o n : ℕ) (ls : List (List ℕ)) → bytesOf (backFrom o n ls) ≡ length (flatten ls)
-unfolding backFrom bytesOf flatten
-backFrom-bytes o n [] = refl
-backFrom-bytes o n (l ∷ ls) = omega (arith, backFrom-bytes o n ls, length-append l (flatten ls))
-
--- one line more
-pub backFrom-snoc : (o n : ℕ) (ls : List (List ℕ)) (l : List ℕ)
-    → backFrom (o + length l) (n + 1) (ls ++ (l ∷ [])) ≡ backFrom o n ls ++ (record { offset = o; length = length l; number = n } ∷ [])
-unfolding backFrom flatten
-backFrom-snoc o n [] l =
-    let offset : o + length l - length (l ++ []) ≡ o = omega (arith, length-append l []) in
-    let number : n + 1 - 1 ≡ n = omega arith in
-    rw (offset, number)
-backFrom-snoc o n (x ∷ ls) l =
-    let bytes = length-append x (flatten (ls ++ (l ∷ []))) in
-    let more = length-append (flatten ls) (l ++ []) in
-    let joined = ap length (flatten-append ls (l ∷ [])) in
-    let offset : o + length l - length (x ++ flatten (ls ++ (l ∷ []))) ≡ o - length (x ++ flatten ls) =
-    omega (arith, bytes, more, joined, length-append x (flatten ls), length-append l [])
-    in
-    let number : n + 1 - suc (length (ls ++ (l ∷ []))) ≡ n - suc (length ls) = omega (arith, length-append ls (l ∷ [])) in
-    rw (offset, number, backFrom-snoc o n ls l)
+    let x = part (s .places .floor) (s .places .next) w in
+    let f = flatten (lastOf (keptLines (s .walk .settings)) (sinceLines s w)) in
+    let last = flatten-last (keptLines (s .walk .settings)) (s .walk .settings .terminator) x in
+    let size : length x ≡ s .places .next - s .places .floor = part-length (s .places .floor) (s .places .next) w h k in
+    let from : s .places .floor + (length x - length f) ≡ s .places .next - length f = omega (arith, last .0) in
+    ap (λ a. part a (s .places .next) w) (sym from) ∙ sym (part-drop (s .places .floor) (s .places .next) (length x - length f) w) ∙ last .1

@@ -16,49 +16,46 @@ use Rattle.definition.specs.State.{State, begun, rows, state, trim}
 use Rattle.definition.specs.Text.{firstLength, handed, lines, text}
 use Rattle.definition.proofs.Kept.{rows-append}
 use Rattle.definition.proofs.Same.{same-end, same-lines, same-rows}
+use Rattle.core.specs.Answer.{stateSince}
+use Rattle.core.specs.Walk.{shownAhead}
 use Rattle.session.specs.declared.Session.{Session}
 use Rattle.session.specs.declared.Waiting.the-variants.{LineWaits, NoneWaits}
 use Rattle.session.specs.Calls.{answered, offered, recorded, shownLine, waiting, waitingRefusal}
-use Rattle.session.specs.Held.{lineLength, shown, unanswered, waits}
+use Rattle.session.specs.Held.{lineLength, shown, sinceLines, unanswered, waits}
 use Rattle.session.specs.Promises.{Account, Asked, Begins, Beginning, Prompt, Cut, Ends, Finished, Handed, Memory, NoRoom, Room, Served, TooLong, Within, answersOf}
 use Rattle.session.specs.Run.{At, Run, Steps}
 use Rattle.session.specs.Sound.{sound}
-use Rattle.session.proofs.Carry.{carried, offer-served, record-served, told-served}
+use Rattle.session.proofs.Carry.{offer-served, record-served, told-served}
 use Rattle.session.proofs.Cases.{offer-case}
 use Rattle.session.proofs.Finish.{record-same, rows-done, served-done, served-record, state-done}
 use Rattle.session.proofs.Giving.{line, lines-now}
 use Rattle.session.proofs.History.{answer-gives, inv-run, run-on, run-settings, steps-stay, waiting-line}
 use Rattle.session.proofs.Invariant.{Inv, sound-now, taken-is}
 use Rattle.session.proofs.Room.{cut-shorter, not-ended, not-past, same-count, too-long}
+use Rattle.session.proofs.Soon.{carried}
 
 -- the part shown is the waiting line without its terminator
-pub shown-handed : (s : Session) (w : List ℕ) → waiting s w ≡ LineWaits → shownLine s w ≡ handed (s .settings .terminator) (line s w)
-unfolding shownLine line lineLength unanswered
-shown-handed s w e =
-    let t = s .settings .terminator in
-    let rest = drop (s .next) w in
-    let size = s .end - s .next in
-    let k = firstLength t (take size rest) in
-    let n : s .next + k - s .next ≡ k = omega arith in
-    rw (e, n) (ap (handed t) (sym (take-take k size rest (omega (arith, length-take size rest)))))
+pub shown-handed : (s : Session) (w : List ℕ) → waiting s w ≡ LineWaits → shownLine s w ≡ handed (s .walk .settings .terminator) (line s w)
+unfolding shownLine shownAhead waits line lineLength
+shown-handed s w e = rw (waiting-line s w e .0, waiting-line s w e .1)
 
 module _ (input : List ℕ) (answers : ℕ → Bool) (s : Session) (w rest : List ℕ) (count : ℕ) (given : List Row)
     (i : Inv input answers s w rest count given) where
   -- the definition's rows are those given and those of the lines still to come
-  rows-all : rowsOf (s .settings) input answers
-      ≡ given ++ rows (s .settings) answers (state (s .settings) answers (begun (s .settings)) (i .gone)) (lines (s .settings .terminator) (unanswered s w ++ text (s .settings) rest))
+  rows-all : rowsOf (s .walk .settings) input answers
+      ≡ given ++ rows (s .walk .settings) answers (state (s .walk .settings) answers (begun (s .walk .settings)) (i .gone)) (lines (s .walk .settings .terminator) (unanswered s w ++ text (s .walk .settings) rest))
   rows-all =
-      let c = s .settings in
+      let c = s .walk .settings in
       let later = lines (c .terminator) (unanswered s w ++ text c rest) in
       same-rows c input answers
       ∙ ap (rows c answers (begun c)) (i .lines-are)
       ∙ rows-append c answers (begun c) (i .gone) later
       ∙ ap (λ (xs : List Row). xs ++ rows c answers (state c answers (begun c) (i .gone)) later) (sym (i .rows-are))
 
-  pub finished-inv : recorded s .refusal ≡ 0 → (given ≡ rowsOf (s .settings) input answers) × (recorded s .end ≡ endOf (s .settings) input answers)
-  unfolding finalState trim shown
+  pub finished-inv : recorded s .refusal ≡ 0 → (given ≡ rowsOf (s .walk .settings) input answers) × (recorded s .end ≡ endOf (s .walk .settings) input answers)
+  unfolding finalState trim shown stateSince sinceLines
   finished-inv e =
-      let c = s .settings in
+      let c = s .walk .settings in
       let d = served-done s e in
       let record-at : State → _ = λ t. endRecord c input (t .bytes) (t .lines) (t .matches) (t .going) in (
         sym (rows-all ∙ ap (λ xs. given ++ xs) (rows-done input answers s w rest count given i d) ∙ append-nil given),
@@ -70,14 +67,14 @@ module _ (input : List ℕ) (answers : ℕ → Bool) (s : Session) (w rest : Lis
       )
 
   pub handed-inv : waiting s w ≡ LineWaits → (before : List (List ℕ)) × (l : List ℕ) × (later : List (List ℕ))
-      × (lines (s .settings .terminator) (text (s .settings) input) ≡ before ++ (l ∷ later))
+      × (lines (s .walk .settings .terminator) (text (s .walk .settings) input) ≡ before ++ (l ∷ later))
       × (length before ≡ count)
-      × (shownLine s w ≡ handed (s .settings .terminator) l)
+      × (shownLine s w ≡ handed (s .walk .settings .terminator) l)
   handed-inv e =
       let v = waiting-line s w e .1 in (
         i .gone,
         line s w,
-        lines (s .settings .terminator) (drop (lineLength s w) (unanswered s w) ++ text (s .settings) rest),
+        lines (s .walk .settings .terminator) (drop (lineLength s w) (unanswered s w) ++ text (s .walk .settings) rest),
         i .lines-are ∙ ap (λ xs. i .gone ++ xs) (lines-now input answers s w rest count given i v),
         sym (i .count-is),
         shown-handed s w e,
@@ -104,7 +101,7 @@ prompt c input answers a r =
     × (length before ≡ a .count)
     × (a .rows ≡ goneLines x answers before .rows))
     (run-settings c input answers a r)
-    (i .gone, _, i .lines-are, sym (i .count-is), i .rows-are ∙ sym (same-lines (a .session .settings) answers (i .gone) .0))
+    (i .gone, _, i .lines-are, sym (i .count-is), i .rows-are ∙ sym (same-lines (a .session .walk .settings) answers (i .gone) .0))
 
 pub cut : Cut
 cut c input answers a b r q e f =
@@ -130,12 +127,12 @@ line-after before l later n e =
     rw (m, drop-at before (l ∷ later) n e) (append-nil l)
 
 module _ (matcher : List ℕ → Bool) (input : List ℕ) (s : Session) (w rest : List ℕ) (count : ℕ) (given : List Row)
-    (i : Inv input (answersOf matcher (s .settings) input) s w rest count given) where
-  pub asked-inv : waiting s w ≡ LineWaits → answersOf matcher (s .settings) input (count + 1) ≡ matcher (shownLine s w)
+    (i : Inv input (answersOf matcher (s .walk .settings) input) s w rest count given) where
+  pub asked-inv : waiting s w ≡ LineWaits → answersOf matcher (s .walk .settings) input (count + 1) ≡ matcher (shownLine s w)
   unfolding answersOf
   asked-inv e =
-      let h = handed-inv input (answersOf matcher (s .settings) input) s w rest count given i e in
-      let t = s .settings .terminator in
+      let h = handed-inv input (answersOf matcher (s .walk .settings) input) s w rest count given i e in
+      let t = s .walk .settings .terminator in
       ap (λ (x : List (List ℕ)). matcher (handed t (flatten (take 1 (drop (count + 1 - 1) x))))) (h .3)
       ∙ ap (λ (l : List ℕ). matcher (handed t l)) (line-after (h .0) (h .1) (h .2) count (h .4))
       ∙ ap matcher (sym (h .5))
@@ -203,6 +200,7 @@ room c input answers a r =
     record {
       only = run-too-long c input answers a r;
       never-past = λ count t. run-not-past c input answers a r (length (a .window)) count (omega arith) t;
+      never-ends = λ count t. run-not-ended c input answers a r (length (a .window)) count (omega arith) t;
       refused = refused;
     }
   where

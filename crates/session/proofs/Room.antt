@@ -17,9 +17,10 @@ use Rattle.definition.specs.Text.{firstLength, firstPlace, lines, text}
 use Rattle.definition.proofs.Kept.{state-append, state-stopped}
 use Rattle.definition.proofs.Same.{same-lines}
 use Rattle.definition.proofs.Terminator.{first-append-none, lines-head}
+use Rattle.core.specs.Walk.{isOn, waitsAhead}
 use Rattle.session.specs.declared.Session.{Session}
 use Rattle.session.specs.Calls.{idle, offered}
-use Rattle.session.specs.Held.{heldBytes, isOn, isOpen, keptBytes, lineBytes, unanswered, waits}
+use Rattle.session.specs.Held.{heldBytes, isOpen, keptBytes, unanswered, waits}
 use Rattle.session.specs.Promises.{Fitted, TooLong, keptBefore}
 use Rattle.session.proofs.Carry.{more-text, not-idle, or-false}
 use Rattle.session.proofs.Cases.{offer-case, offer-only}
@@ -67,7 +68,7 @@ longer-line t u v h some =
     omega (arith, first-append-none t u v h, length-take (firstLength t (u ++ v)) (u ++ v), length-append u v)
 
 -- a line longer than what is held, after what is kept, exceeds the window
-over : (s : Session) (w : List ℕ) → s .window ≤ heldBytes s w → (n kept len : ℕ) → n ≡ s .window → kept ≡ keptBytes s w → s .end - s .next < len
+over : (s : Session) (w : List ℕ) → s .places .window ≤ heldBytes s w → (n kept len : ℕ) → n ≡ s .places .window → kept ≡ keptBytes s w → s .places .end - s .places .next < len
     → n < kept + len
 unfolding heldBytes
 over s w h n kept len e k l = omega arith
@@ -75,19 +76,19 @@ over s w h n kept len e k l = omega arith
 module _ (input : List ℕ) (answers : ℕ → Bool) (s : Session) (w rest : List ℕ) (count : ℕ) (given : List Row)
     (i : Inv input answers s w rest count given) where
   -- while no line waits and the input is open the bytes held hold no terminator
-  pub no-terminator : waits s w ≡ false → s .going ≡ On → length (unanswered s w) ≤ firstPlace (s .settings .terminator) (unanswered s w)
-  unfolding waits lineBytes
+  pub no-terminator : waits s w ≡ false → s .walk .going ≡ On → length (unanswered s w) ≤ firstPlace (s .walk .settings .terminator) (unanswered s w)
+  unfolding waits waitsAhead
   no-terminator v g =
       let u = unanswered s w in
-      let p = firstPlace (s .settings .terminator) u in
-      let e : (ltb p (length u) || (not (isOpen (s .input)) && ltb 0 (length u))) ≡ false = rw (ap isOn g) at v in
-      ltb-false p (length u) (or-false (ltb p (length u)) (not (isOpen (s .input)) && ltb 0 (length u)) e .0)
+      let p = firstPlace (s .walk .settings .terminator) u in
+      let e : (ltb p (length u) || (not (isOpen (s .places .input)) && ltb 0 (length u))) ≡ false = rw (ap isOn g) at v in
+      ltb-false p (length u) (or-false (ltb p (length u)) (not (isOpen (s .places .input)) && ltb 0 (length u)) e .0)
 
   pub too-long : (k : ℕ) → offered s w (take k rest) .refusal ≡ 3
-      → (t : TooLong (s .settings) input answers (length w) count) × (given ≡ goneLines (s .settings) answers (t .before) .rows)
+      → (t : TooLong (s .walk .settings) input answers (length w) count) × (given ≡ goneLines (s .walk .settings) answers (t .before) .rows)
   unfolding offered
   too-long k e =
-      let c = s .settings in
+      let c = s .walk .settings in
       let t = c .terminator in
       let u = unanswered s w in
       let v = text c rest in
@@ -114,11 +115,11 @@ module _ (input : List ℕ) (answers : ℕ → Bool) (s : Session) (w rest : Lis
 
   -- # No run gets past
 
-  pub not-past : (n c : ℕ) → s .window ≤ n → TooLong (s .settings) input answers n c → count ≤ c
+  pub not-past : (n c : ℕ) → s .places .window ≤ n → TooLong (s .walk .settings) input answers n c → count ≤ c
   not-past n c h t = elim (decLt c count) [
     | yes k ↦
         let m =
-        cut-longer (i .gone) (lines (s .settings .terminator) (unanswered s w ++ text (s .settings) rest)) (t .before) (t .line) (t .later)
+        cut-longer (i .gone) (lines (s .walk .settings .terminator) (unanswered s w ++ text (s .walk .settings) rest)) (t .before) (t .line) (t .later)
         (sym (i .lines-are) ∙ t .lines-are) (omega (arith, t .count-is, i .count-is))
         in
         absurd (omega (arith, i .fitted (t .before) (t .line) (m .0) (m .1), t .exceeds))
@@ -126,17 +127,17 @@ module _ (input : List ℕ) (answers : ℕ → Bool) (s : Session) (w rest : Lis
   ]
 
   -- and no run ends before it
-  pub not-ended : (n c : ℕ) → s .window ≤ n → TooLong (s .settings) input answers n c → Done s → ⊥
+  pub not-ended : (n c : ℕ) → s .places .window ≤ n → TooLong (s .walk .settings) input answers n c → Done s → ⊥
   not-ended n c h t (ended g o l) =
       let none = nothing-left input answers s w rest count given i o l in
-      let all : lines (s .settings .terminator) (text (s .settings) input) ≡ i .gone = i .lines-are ∙ ap (λ xs. i .gone ++ xs) none ∙ append-nil (i .gone) in
+      let all : lines (s .walk .settings .terminator) (text (s .walk .settings) input) ≡ i .gone = i .lines-are ∙ ap (λ xs. i .gone ++ xs) none ∙ append-nil (i .gone) in
       omega (arith, not-past n c h t, i .count-is, t .count-is, ap length (sym all ∙ t .lines-are), length-append (t .before) (t .line ∷ t .later))
   not-ended n c h t (stopped g) =
       let m =
-      cut-shorter (i .gone) (lines (s .settings .terminator) (unanswered s w ++ text (s .settings) rest)) (t .before) (t .line ∷ t .later)
+      cut-shorter (i .gone) (lines (s .walk .settings .terminator) (unanswered s w ++ text (s .walk .settings) rest)) (t .before) (t .line ∷ t .later)
       (sym (i .lines-are) ∙ t .lines-are) (omega (arith, not-past n c h t, i .count-is, t .count-is))
       in
-      let k = s .settings in
+      let k = s .walk .settings in
       let b = state k answers (begun k) (i .gone) in
       let off : b .going ≡ On → ⊥ = λ e. g (going-is input answers s w rest count given i ∙ e) in
       let same : state k answers (begun k) (t .before) ≡ b =

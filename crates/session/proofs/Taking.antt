@@ -19,16 +19,16 @@ use Rattle.definition.specs.Text.{firstPlace, lines, part, text, textUnder, upT
 use Rattle.definition.proofs.Lists.{lastOf-lastOf}
 use Rattle.definition.proofs.Terminator.{first-append, first-append-none, first-le, lines-drop, Whole, whole-drop}
 use Rattle.definition.proofs.Uncut.{Uncut, length-replaced, text-append, uncut-append, upTo-drop, upTo-take}
+use Rattle.core.specs.Answer.{backFrom, stateSince}
+use Rattle.core.proofs.Back.{backFrom-last}
 use Rattle.session.specs.declared.Input.the-variants.{Open, QuitFound}
-use Rattle.session.specs.declared.Offering.{Offering}
-use Rattle.session.specs.declared.Offering.the-variants.{OfferRefused, Idle, Take}
 use Rattle.session.specs.declared.Session.{Session}
-use Rattle.session.specs.Calls.{beforeQuit, firstOf, offerAnswer, offered, offering, quitPlace, replacedIn, stored, storedWindow}
-use Rattle.session.specs.Held.{backFrom, keptFrom, shown, sinceLines, unanswered}
+use Rattle.session.specs.Calls.{Idle, OfferDecision, OfferRefused, Take, beforeQuit, firstOf, offerAnswer, offered, offering, quitPlace, replacedIn, stored, storedWindow}
+use Rattle.session.specs.Held.{keptFrom, shown, sinceLines, unanswered}
 use Rattle.session.specs.Sound.{Agree}
 use Rattle.session.proofs.Invariant.{Inv, InputNow, taken-is, unanswered-length}
 use Rattle.session.proofs.Keeps.{Room, TakenIf, agree-stored, offer-taken}
-use Rattle.session.proofs.Parts.{backFrom-last, kept-part, part-length, part-split}
+use Rattle.session.proofs.Parts.{kept-part, part-length, part-split}
 
 -- # Bytes before a Quit byte
 
@@ -42,19 +42,19 @@ pub taken-le : (s : Session) (w piece : List ℕ) → offered s w piece .taken �
 unfolding offered beforeQuit
 taken-le s w piece = go (offering s w piece) (offer-taken s w piece)
   where
-    go : (o : Offering) → TakenIf s w piece o → offerAnswer o s w piece .taken ≤ length piece
+    go : (o : OfferDecision) → TakenIf s w piece o → offerAnswer o s w piece .taken ≤ length piece
     go (OfferRefused k) t = omega arith
     go Idle t = omega arith
-    go (Take n quit) t = omega (arith, quit-le (s .settings .binary) piece, t .room .quit)
+    go (Take n quit) t = omega (arith, quit-le (s .walk .settings .binary) piece, t .room .quit)
 
 under-uncut : (k : Binary) (t n : ℕ) (piece : List ℕ) → n ≤ quitPlace k piece → length (textUnder k t (take n piece)) ≡ length (take n piece)
 under-uncut Ignore t n piece h = refl
 under-uncut (Quit b) t n piece h = ap length (upTo-take b n piece h)
 under-uncut (Convert b) t n piece h = length-replaced b t (take n piece)
 
-pub take-uncut : (s : Session) (n : ℕ) (piece : List ℕ) → n ≤ beforeQuit s piece → Uncut (s .settings) (take n piece)
+pub take-uncut : (s : Session) (n : ℕ) (piece : List ℕ) → n ≤ beforeQuit s piece → Uncut (s .walk .settings) (take n piece)
 unfolding text beforeQuit
-take-uncut s n piece h = under-uncut (s .settings .binary) (s .settings .terminator) n piece h
+take-uncut s n piece h = under-uncut (s .walk .settings .binary) (s .walk .settings .terminator) n piece h
 
 -- a Quit byte next after the bytes taken of a beginning of the rest
 quit-next : (k : Binary) (t n m : ℕ) (rest : List ℕ) → n ≡ quitPlace k (take m rest) → n < length (take m rest)
@@ -104,54 +104,54 @@ replaced-append (Convert b) t xs ys = go (eqb b t)
 
 -- # The window after taking
 
-module _ (s : Session) (w piece : List ℕ) (n : ℕ) (a : Agree s) (r : Room s w piece n) (size : length w ≡ s .window) where
-  new-length : length (text (s .settings) (take n piece)) ≡ n
+module _ (s : Session) (w piece : List ℕ) (n : ℕ) (a : Agree s) (r : Room s w piece n) (size : length w ≡ s .places .window) where
+  new-length : length (text (s .walk .settings) (take n piece)) ≡ n
   unfolding beforeQuit
-  new-length = take-uncut s n piece (r .quit) ∙ omega (arith, length-take n piece, quit-le (s .settings .binary) piece, r .quit)
+  new-length = take-uncut s n piece (r .quit) ∙ omega (arith, length-take n piece, quit-le (s .walk .settings .binary) piece, r .quit)
 
-  from-le : keptFrom s w ≤ s .next
+  from-le : keptFrom s w ≤ s .places .next
   unfolding keptFrom
   from-le = omega arith
 
   window-parts : storedWindow s w piece n
-      ≡ part (keptFrom s w) (s .next) w ++ (unanswered s w ++ (text (s .settings) (take n piece) ++ drop (s .end - keptFrom s w + n) w))
+      ≡ part (keptFrom s w) (s .places .next) w ++ (unanswered s w ++ (text (s .walk .settings) (take n piece) ++ drop (s .places .end - keptFrom s w + n) w))
   unfolding storedWindow unanswered
   window-parts =
-      rw (part-split (keptFrom s w) (s .next) (s .end) w from-le (a .next-end))
-      (append-assoc (part (keptFrom s w) (s .next) w) (part (s .next) (s .end) w) _)
+      rw (part-split (keptFrom s w) (s .places .next) (s .places .end) w from-le (a .places .next-end))
+      (append-assoc (part (keptFrom s w) (s .places .next) w) (part (s .places .next) (s .places .end) w) _)
 
-  kept-length : length (part (keptFrom s w) (s .next) w) ≡ s .next - keptFrom s w
-  kept-length = part-length (keptFrom s w) (s .next) w from-le (omega (arith, a, size))
+  kept-length : length (part (keptFrom s w) (s .places .next) w) ≡ s .places .next - keptFrom s w
+  kept-length = part-length (keptFrom s w) (s .places .next) w from-le (omega (arith, a, size))
 
-  stored-kept : part 0 (s .next - keptFrom s w) (storedWindow s w piece n) ≡ part (keptFrom s w) (s .next) w
+  stored-kept : part 0 (s .places .next - keptFrom s w) (storedWindow s w piece n) ≡ part (keptFrom s w) (s .places .next) w
   stored-kept =
-      let z : s .next - keptFrom s w - 0 ≡ s .next - keptFrom s w = omega arith in
-      rw (z, window-parts) (take-at (part (keptFrom s w) (s .next) w) _ (s .next - keptFrom s w) kept-length)
+      let z : s .places .next - keptFrom s w - 0 ≡ s .places .next - keptFrom s w = omega arith in
+      rw (z, window-parts) (take-at (part (keptFrom s w) (s .places .next) w) _ (s .places .next - keptFrom s w) kept-length)
 
-  stored-part : part (s .next - keptFrom s w) (s .end - keptFrom s w + n) (storedWindow s w piece n)
-      ≡ unanswered s w ++ text (s .settings) (take n piece)
+  stored-part : part (s .places .next - keptFrom s w) (s .places .end - keptFrom s w + n) (storedWindow s w piece n)
+      ≡ unanswered s w ++ text (s .walk .settings) (take n piece)
   stored-part =
-      let kept = part (keptFrom s w) (s .next) w in
+      let kept = part (keptFrom s w) (s .places .next) w in
       let old = unanswered s w in
-      let new = text (s .settings) (take n piece) in
-      let tail = drop (s .end - keptFrom s w + n) w in
-      let m : s .end - keptFrom s w + n - (s .next - keptFrom s w) ≡ length (old ++ new) =
-      omega (arith, from-le, a .next-end, length-append old new, unanswered-length s w a size, new-length)
+      let new = text (s .walk .settings) (take n piece) in
+      let tail = drop (s .places .end - keptFrom s w + n) w in
+      let m : s .places .end - keptFrom s w + n - (s .places .next - keptFrom s w) ≡ length (old ++ new) =
+      omega (arith, from-le, a .places .next-end, length-append old new, unanswered-length s w a size, new-length)
       in
-      rw (window-parts, drop-at kept (old ++ (new ++ tail)) (s .next - keptFrom s w) kept-length, m)
+      rw (window-parts, drop-at kept (old ++ (new ++ tail)) (s .places .next - keptFrom s w) kept-length, m)
       (ap (λ xs. take (length (old ++ new)) xs) (sym (append-assoc old new tail)) ∙ take-at (old ++ new) tail (length (old ++ new)) refl)
 
-  pub stored-unanswered : (quit : Bool) → unanswered (stored s w piece n quit) (storedWindow s w piece n) ≡ unanswered s w ++ text (s .settings) (take n piece)
+  pub stored-unanswered : (quit : Bool) → unanswered (stored s w piece n quit) (storedWindow s w piece n) ≡ unanswered s w ++ text (s .walk .settings) (take n piece)
   unfolding stored unanswered
   stored-unanswered quit = stored-part
 
   pub stored-length : length (storedWindow s w piece n) ≡ length w
   unfolding keptFrom
   stored-length =
-      let kept = part (keptFrom s w) (s .next) w in
+      let kept = part (keptFrom s w) (s .places .next) w in
       let old = unanswered s w in
-      let new = text (s .settings) (take n piece) in
-      let tail = drop (s .end - keptFrom s w + n) w in
+      let new = text (s .walk .settings) (take n piece) in
+      let tail = drop (s .places .end - keptFrom s w + n) w in
       ap length window-parts
       ∙ omega (
         arith,
@@ -161,69 +161,69 @@ module _ (s : Session) (w piece : List ℕ) (n : ℕ) (a : Agree s) (r : Room s 
         kept-length,
         unanswered-length s w a size,
         new-length,
-        length-drop (s .end - keptFrom s w + n) w,
+        length-drop (s .places .end - keptFrom s w + n) w,
         r,
         a,
         size,
       )
 
   -- what lies beyond the new held end stays
-  pub stored-beyond : drop (s .end - keptFrom s w + n) (storedWindow s w piece n) ≡ drop (s .end - keptFrom s w + n) w
+  pub stored-beyond : drop (s .places .end - keptFrom s w + n) (storedWindow s w piece n) ≡ drop (s .places .end - keptFrom s w + n) w
   unfolding storedWindow
   stored-beyond =
-      let held = part (keptFrom s w) (s .end) w in
-      let new = text (s .settings) (take n piece) in
-      let tail = drop (s .end - keptFrom s w + n) w in
-      let long : length (held ++ new) ≡ s .end - keptFrom s w + n =
-      omega (arith, length-append held new, new-length, part-length (keptFrom s w) (s .end) w (omega (arith, from-le, a)) (omega (arith, a, size)))
+      let held = part (keptFrom s w) (s .places .end) w in
+      let new = text (s .walk .settings) (take n piece) in
+      let tail = drop (s .places .end - keptFrom s w + n) w in
+      let long : length (held ++ new) ≡ s .places .end - keptFrom s w + n =
+      omega (arith, length-append held new, new-length, part-length (keptFrom s w) (s .places .end) w (omega (arith, from-le, a)) (omega (arith, a, size)))
       in
-      ap (drop (s .end - keptFrom s w + n)) (sym (append-assoc held new tail)) ∙ drop-at (held ++ new) tail (s .end - keptFrom s w + n) long
+      ap (drop (s .places .end - keptFrom s w + n)) (sym (append-assoc held new tail)) ∙ drop-at (held ++ new) tail (s .places .end - keptFrom s w + n) long
 
   -- the lines since the last row are the kept ones
-  stored-since : (quit : Bool) → sinceLines (stored s w piece n quit) (storedWindow s w piece n) ≡ lastOf (keptLines (s .settings)) (sinceLines s w)
+  stored-since : (quit : Bool) → sinceLines (stored s w piece n quit) (storedWindow s w piece n) ≡ lastOf (keptLines (s .walk .settings)) (sinceLines s w)
   unfolding sinceLines stored lastOf
   stored-since quit =
-      rw (stored-kept, kept-part s w (a .floor-next) (omega (arith, a, size)))
-      (lines-drop (length (sinceLines s w) - keptLines (s .settings)) (s .settings .terminator) (part (s .floor) (s .next) w))
+      rw (stored-kept, kept-part s w (a .places .floor-next) (omega (arith, a, size)))
+      (lines-drop (length (sinceLines s w) - keptLines (s .walk .settings)) (s .walk .settings .terminator) (part (s .places .floor) (s .places .next) w))
 
-  pub stored-shown : (quit : Bool) → trim (s .settings) (shown (stored s w piece n quit) (storedWindow s w piece n)) ≡ trim (s .settings) (shown s w)
-  unfolding shown trim stored
+  pub stored-shown : (quit : Bool) → trim (s .walk .settings) (shown (stored s w piece n quit) (storedWindow s w piece n)) ≡ trim (s .walk .settings) (shown s w)
+  unfolding shown stateSince sinceLines trim stored
   stored-shown quit =
-      let k = keptLines (s .settings) in
+      let k = keptLines (s .walk .settings) in
       let ls = sinceLines s w in
-      let since : lastOf k (backFrom (s .bytes) (s .lines + 1) (lastOf k ls)) ≡ lastOf k (backFrom (s .bytes) (s .lines + 1) ls) =
-      backFrom-last k (s .bytes) (s .lines + 1) (lastOf k ls)
-      ∙ ap (λ xs. backFrom (s .bytes) (s .lines + 1) xs) (lastOf-lastOf k k ls (omega arith))
-      ∙ sym (backFrom-last k (s .bytes) (s .lines + 1) ls)
+      let since : lastOf k (backFrom (s .walk .bytes) (s .walk .lines + 1) (lastOf k ls)) ≡ lastOf k (backFrom (s .walk .bytes) (s .walk .lines + 1) ls) =
+      backFrom-last k (s .walk .bytes) (s .walk .lines + 1) (lastOf k ls)
+      ∙ ap (λ xs. backFrom (s .walk .bytes) (s .walk .lines + 1) xs) (lastOf-lastOf k k ls (omega arith))
+      ∙ sym (backFrom-last k (s .walk .bytes) (s .walk .lines + 1) ls)
       in
       rw (stored-since quit, since)
 
-  pub stored-whole : Whole (s .settings .terminator) (part (s .floor) (s .next) w)
-      → Whole (s .settings .terminator) (part 0 (s .next - keptFrom s w) (storedWindow s w piece n))
+  pub stored-whole : Whole (s .walk .settings .terminator) (part (s .places .floor) (s .places .next) w)
+      → Whole (s .walk .settings .terminator) (part 0 (s .places .next - keptFrom s w) (storedWindow s w piece n))
   unfolding lastOf sinceLines
   stored-whole h =
-      rw (stored-kept, kept-part s w (a .floor-next) (omega (arith, a, size)))
-      (whole-drop (length (sinceLines s w) - keptLines (s .settings)) (s .settings .terminator) (part (s .floor) (s .next) w) h)
+      rw (stored-kept, kept-part s w (a .places .floor-next) (omega (arith, a, size)))
+      (whole-drop (length (sinceLines s w) - keptLines (s .walk .settings)) (s .walk .settings .terminator) (part (s .places .floor) (s .places .next) w) h)
 
 -- # The invariant
 
 -- the rest of the input, cut after the bytes taken
 pub rest-text : (s : Session) (n k : ℕ) (rest : List ℕ) → n ≤ beforeQuit s (take k rest)
-    → (take n (take k rest) ++ drop n rest ≡ rest) × (text (s .settings) (take n (take k rest)) ++ text (s .settings) (drop n rest) ≡ text (s .settings) rest)
+    → (take n (take k rest) ++ drop n rest ≡ rest) × (text (s .walk .settings) (take n (take k rest)) ++ text (s .walk .settings) (drop n rest) ≡ text (s .walk .settings) rest)
 unfolding beforeQuit
 rest-text s n k rest h =
-    let le : n ≤ k = omega (arith, h, quit-le (s .settings .binary) (take k rest), length-take k rest) in
+    let le : n ≤ k = omega (arith, h, quit-le (s .walk .settings .binary) (take k rest), length-take k rest) in
     let whole : take n (take k rest) ++ drop n rest ≡ rest = rw (take-take n k rest le) (take-append-drop n rest) in
-    (whole, sym (text-append (s .settings) (take n (take k rest)) (drop n rest) (take-uncut s n (take k rest) h)) ∙ ap (text (s .settings)) whole)
+    (whole, sym (text-append (s .walk .settings) (take n (take k rest)) (drop n rest) (take-uncut s n (take k rest) h)) ∙ ap (text (s .walk .settings)) whole)
 
 -- how the input stands afterwards
 input-after : (s : Session) (n k : ℕ) (rest : List ℕ) (quit : Bool)
-    → (eqb n (beforeQuit s (take k rest)) && ltb n (length (take k rest))) ≡ quit → InputNow (s .settings) (cond quit QuitFound Open) (drop n rest)
+    → (eqb n (beforeQuit s (take k rest)) && ltb n (length (take k rest))) ≡ quit → InputNow (s .walk .settings) (cond quit QuitFound Open) (drop n rest)
 unfolding beforeQuit text
 input-after s n k rest true e =
     let piece = take k rest in
-    let both = and-eq-true-iff (eqb n (quitPlace (s .settings .binary) piece)) (ltb n (length piece)) .0 e in
-    quit-next (s .settings .binary) (s .settings .terminator) n k rest (eqb-true n (quitPlace (s .settings .binary) piece) (both .0)) (ltb-true n (length piece) (both .1))
+    let both = and-eq-true-iff (eqb n (quitPlace (s .walk .settings .binary) piece)) (ltb n (length piece)) .0 e in
+    quit-next (s .walk .settings .binary) (s .walk .settings .terminator) n k rest (eqb-true n (quitPlace (s .walk .settings .binary) piece) (both .0)) (ltb-true n (length piece) (both .1))
 input-after s n k rest false e = tt
 
 pub inv-taken : (input : List ℕ) (answers : ℕ → Bool) (s : Session) (w rest : List ℕ) (count : ℕ) (given : List Row) (k n : ℕ) (quit : Bool)
@@ -232,7 +232,7 @@ pub inv-taken : (input : List ℕ) (answers : ℕ → Bool) (s : Session) (w res
     → Inv input answers (stored s w (take k rest) n quit) (storedWindow s w (take k rest) n) (drop n rest) count given
 unfolding stored
 inv-taken input answers s w rest count given k n quit i r e =
-    let c = s .settings in
+    let c = s .walk .settings in
     let piece = take k rest in
     let new = text c (take n piece) in
     let old = unanswered s w in

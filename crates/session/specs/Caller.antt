@@ -12,12 +12,13 @@ use Rattle.definition.specs.declared.Going.the-variants.{On}
 use Rattle.definition.specs.declared.Settings.{Settings}
 use Rattle.definition.specs.Bounds.{allowed, maxInput, maxWindow}
 use Rattle.definition.specs.Rows.{rowSize}
-use Rattle.definition.specs.Text.{firstPlace, lines}
+use Rattle.definition.specs.Text.{firstPlace, lines, part}
+use Rattle.core.specs.Walk.{isOn}
 use Rattle.session.specs.declared.Input.the-variants.{Open, QuitFound}
 use Rattle.session.specs.declared.Session.{Session}
 use Rattle.session.specs.declared.Waiting.the-variants.{LineWaits}
-use Rattle.session.specs.Calls.{answerRows, answered, answeredTable, belowOne, idle, noRecord, offered, offeredWindow, opened, quitFront, recorded, remains, shownLine, told, waiting, waitingRefusal}
-use Rattle.session.specs.Held.{heldBytes, isOn, isOpen, unanswered, waits}
+use Rattle.session.specs.Calls.{answerRows, answered, answeredTable, belowOne, idle, noRecord, offered, offeredWindow, opened, quitFront, recorded, remains, shownFrom, shownLine, told, waiting, waitingRefusal}
+use Rattle.session.specs.Held.{heldBytes, isOpen, unanswered, waits}
 use Rattle.session.specs.Sound.{agrees, closed, sound, takenBytes}
 
 -- A session reached from a served opening by any calls, with any windows, pieces, tables and answers, and the bytes taken by then,
@@ -71,14 +72,14 @@ OfferServed s w piece =
     (sound s (length w) ≡ true)
     × ((idle s piece ≡ true)
     ⊎ ((quitFront s piece ≡ true)
-    ⊎ ((takenBytes s < maxInput) × ((waits s w ≡ true) ⊎ (heldBytes s w < s .window)))))
+    ⊎ ((takenBytes s < maxInput) × ((waits s w ≡ true) ⊎ (heldBytes s w < s .places .window)))))
 
 pub record Offers (s : Session) (w piece : List ℕ) : Type 0 where
   pub six : (offered s w piece .refusal ≡ 6) ↔ (sound s (length w) ≡ false)
   pub five : (offered s w piece .refusal ≡ 5) ↔ (Plain s w piece × (maxInput ≤ takenBytes s))
   pub three :
       (offered s w piece .refusal ≡ 3)
-      ↔ (Plain s w piece × (takenBytes s < maxInput) × (waits s w ≡ false) × (s .window ≤ heldBytes s w))
+      ↔ (Plain s w piece × (takenBytes s < maxInput) × (waits s w ≡ false) × (s .places .window ≤ heldBytes s w))
   pub zero : (offered s w piece .refusal ≡ 0) ↔ OfferServed s w piece
 
 pub record Answers (s : Session) (w table : List ℕ) (hit : Bool) : Type 0 where
@@ -133,34 +134,41 @@ unfinishedIn true false t bytes = 0
 unfinishedIn false more t bytes = length bytes
 
 unfoldable pub waitingBytes : Session → List ℕ → ℕ
-waitingBytes s w = waitingIn (isOn (s .going)) (isOpen (s .input)) (s .settings .terminator) (unanswered s w)
+waitingBytes s w = waitingIn (isOn (s .walk .going)) (isOpen (s .places .input)) (s .walk .settings .terminator) (unanswered s w)
 
 unfoldable pub unfinishedBytes : Session → List ℕ → ℕ
-unfinishedBytes s w = unfinishedIn (isOn (s .going)) (isOpen (s .input)) (s .settings .terminator) (unanswered s w)
+unfinishedBytes s w = unfinishedIn (isOn (s .walk .going)) (isOpen (s .places .input)) (s .walk .settings .terminator) (unanswered s w)
 
 -- "Bytes taken always equal bytes gone through plus waiting .. plus unfinished", the bytes taken as the offers told them; a line waits
 -- exactly where bytes wait, and "after a stop no line waits".
 abbrev pub Balance : Type 0
 Balance =
-    (n : ℕ) (s : Session) (w : List ℕ) → Reached n s → length w ≡ s .window
-    → (n ≡ s .bytes + waitingBytes s w + unfinishedBytes s w)
+    (n : ℕ) (s : Session) (w : List ℕ) → Reached n s → length w ≡ s .places .window
+    → (n ≡ s .walk .bytes + waitingBytes s w + unfinishedBytes s w)
     × ((waits s w ≡ true) ↔ (0 < waitingBytes s w))
-    × ((s .going ≡ On → ⊥) → waits s w ≡ false)
+    × ((s .walk .going ≡ On → ⊥) → waits s w ≡ false)
 
 -- # What a served call does
 
 -- "Where no line waits and the input is open, a piece with bytes gets at least one taken, finds the Quit byte, or is refused."
 abbrev pub Progress : Type 0
 Progress =
-    (s : Session) (w piece : List ℕ) → waits s w ≡ false → s .input ≡ Open → s .going ≡ On → 0 < length piece
-    → (0 < offered s w piece .taken) ⊎ ((offered s w piece .session .input ≡ QuitFound) ⊎ (offered s w piece .refusal ≡ 0 → ⊥))
+    (s : Session) (w piece : List ℕ) → waits s w ≡ false → s .places .input ≡ Open → s .walk .going ≡ On → 0 < length piece
+    → (0 < offered s w piece .taken) ⊎ ((offered s w piece .session .places .input ≡ QuitFound) ⊎ (offered s w piece .refusal ≡ 0 → ⊥))
+
+-- "The waiting line is shown as that part of the lent window itself": the bytes shown are the window's from the place told on.
+abbrev pub ShownThere : Type 0
+ShownThere =
+    (s : Session) (w : List ℕ)
+    → let from = shownFrom s (length w) in
+    shownLine s w ≡ part from (from + length (shownLine s w)) w
 
 -- "An answer writes at most B + 2 rows, from the table's front; other rows stay."
 abbrev pub RowsStay : Type 0
 RowsStay =
     (s : Session) (w table : List ℕ) (hit : Bool)
     → let n = answered s w table hit .rows in
-    (n ≤ s .settings .before + 2)
+    (n ≤ s .walk .settings .before + 2)
     × (length (answeredTable s w table hit) ≡ length table)
     × (drop (rowSize * n) (answeredTable s w table hit) ≡ drop (rowSize * n) table)
 
@@ -168,13 +176,13 @@ RowsStay =
 abbrev pub WindowStays : Type 0
 WindowStays =
     (s : Session) (w piece : List ℕ)
-    → let end = offered s w piece .session .end in
+    → let end = offered s w piece .session .places .end in
     (length (offeredWindow s w piece) ≡ length w) × (drop end (offeredWindow s w piece) ≡ drop end w)
 
 -- "An empty piece, or one after the end or a stop, takes 0 and changes nothing." "Telling the end again, or after a stop, changes nothing."
 abbrev pub NothingTwice : Type 0
 NothingTwice =
     (s : Session) (w piece : List ℕ)
-    → (idle s piece ≡ true → (offered s w piece .taken ≡ 0) × (offered s w piece .session ≡ s) × (offeredWindow s w piece ≡ w))
-    × ((s .input ≡ Open → ⊥) → told s .session ≡ s)
-    × ((s .going ≡ On → ⊥) → told s .session ≡ s)
+    → let over = (s .places .input ≡ Open → ⊥) ⊎ (s .walk .going ≡ On → ⊥) in
+    ((length piece ≡ 0) ⊎ over → (offered s w piece .taken ≡ 0) × (offered s w piece .session ≡ s) × (offeredWindow s w piece ≡ w))
+    × (over → told s .session ≡ s)

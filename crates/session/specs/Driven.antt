@@ -13,12 +13,14 @@ use Rattle.definition.specs.declared.Going.the-variants.{On}
 use Rattle.definition.specs.declared.Limit.the-variants.{Unlimited, Most}
 use Rattle.definition.specs.declared.Place.the-variants.{Nowhere}
 use Rattle.definition.specs.declared.Settings.{Settings}
+use Rattle.definition.specs.Bounds.{plain}
 use Rattle.definition.specs.Examples.{Example, answersAt, context, settings, r, e, N, all, P}
 use Rattle.definition.specs.Rows.{rowSize}
+use Rattle.core.specs.Walk.{isOn}
 use Rattle.session.specs.declared.Input.the-variants.{Open}
 use Rattle.session.specs.declared.Session.{Session}
-use Rattle.session.specs.Calls.{opened, offered, offeredWindow, waiting, waitingRefusal, shownLine, answered, answeredTable, told, recorded, noRecord}
-use Rattle.session.specs.Held.{isOn, isOpen, waits}
+use Rattle.session.specs.Calls.{answered, answeredTable, offered, offeredWindow, opened, recorded, shownLine, told, waiting, waitingRefusal}
+use Rattle.session.specs.Held.{isOpen, waits}
 use Rattle.session.specs.Run.{rowsIn}
 use Rattle.session.specs.Sound.{closed}
 
@@ -39,6 +41,8 @@ pub data Call : Type 0 where
   answer : Bool → ℕ → Call
   tell : Call
   ask : Call
+  -- the caller looks at the session's own numbers
+  look : Call
   -- the caller of demand 3: the input in pieces of a size, the lines whose answer is yes
   drive : ℕ → List ℕ → List ℕ → Call
 
@@ -52,6 +56,7 @@ pub data Seen : Type 0 where
   heard : ℕ → Seen
   -- refusal, the end record
   ended : ℕ → End → Seen
+  stood : Session → Seen
   -- the refusal that ended the run or 0, the rows, the end record
   drove : ℕ → List Row → End → Seen
 
@@ -62,13 +67,17 @@ sevens n = replicate n 7
 abbrev pub nines : ℕ → List ℕ
 nines n = replicate n 9
 
+-- "a refused end record is all zeros"
+abbrev pub zeros : End
+zeros = e 0 0 0 0 0 0
+
 -- # The caller of demand 3
 
 pub data Turn : Type 0 where
   answers offers tells asks : Turn
 
 abbrev pub turn : Session → List ℕ → List ℕ → Turn
-turn s w rest = cond (waits s w) answers (cond (isOn (s .going) && isOpen (s .input)) (cond (eqb (length rest) 0) tells offers) asks)
+turn s w rest = cond (waits s w) answers (cond (isOn (s .walk .going) && isOpen (s .places .input)) (cond (eqb (length rest) 0) tells offers) asks)
 
 -- fuel; the answers; the piece size; session, window, rest of the input, rows so far
 abbrev pub driven : ℕ → (ℕ → Bool) → ℕ → Session → List ℕ → List ℕ → List Row → Seen
@@ -76,14 +85,14 @@ driven zero hits size s w rest rows = heard 0
 driven (suc fuel) hits size s w rest rows =
     elim (turn s w rest) [
       | answers ↦
-          let hit = hits (s .lines + 1) in
-          let table = nines (rowSize * (s .settings .before + 2)) in
+          let hit = hits (s .walk .lines + 1) in
+          let table = nines (rowSize * (s .walk .settings .before + 2)) in
           let a = answered s w table hit in
           driven fuel hits size (a .session) w rest (rows ++ rowsIn (a .rows) (answeredTable s w table hit))
       | offers ↦
           let o = offered s w (take size rest) in
           let go = driven fuel hits size (o .session) (offeredWindow s w (take size rest)) (drop (o .taken) rest) rows in
-          elim (eqb (o .refusal) 0) [ true ↦ go | false ↦ drove (o .refusal) rows noRecord ]
+          elim (eqb (o .refusal) 0) [ true ↦ go | false ↦ drove (o .refusal) rows zeros ]
       | tells ↦ driven fuel hits size (told s .session) w rest rows
       | asks ↦ drove (recorded s .refusal) rows (recorded s .end)
     ]
@@ -108,6 +117,7 @@ play s w (answer hit n ∷ calls) =
     gave (a .refusal) (rowsIn (a .rows) table') (drop (rowSize * a .rows) table') ∷ play (a .session) w calls
 play s w (tell ∷ calls) = heard (told s .refusal) ∷ play (told s .session) w calls
 play s w (ask ∷ calls) = ended (recorded s .refusal) (recorded s .end) ∷ play s w calls
+play s w (look ∷ calls) = stood s ∷ play s w calls
 play s w (drive size input hits ∷ calls) = driven 100 (answersAt hits) size s w input [] ∷ play s w calls
 
 pub record Script : Type 0 where
@@ -138,34 +148,43 @@ T3 = 97 ∷ 10 ∷ 98 ∷ 10 ∷ 99 ∷ 10 ∷ []
 abbrev pub quitting : ℕ → Settings
 quitting b = settings b 0 false false false Unlimited (Quit 0)
 
--- a session that a caller made up: in a window of 4, so many bytes taken, held unanswered from `next` to `end`
-abbrev pub madeUp : Settings → ℕ → ℕ → ℕ → Session
-madeUp c taken next end =
+abbrev pub converting : Settings
+converting = settings 0 0 false false false Unlimited (Convert 0)
+
+-- a limit of 0, which stops at opening
+abbrev pub unasked : Settings
+unasked = settings 0 0 false false false (Most 0) Ignore
+
+-- a session by its numbers: its window's length; lines gone through; bytes taken, held unanswered from `next` to `end`
+abbrev pub session : Settings → ℕ → ℕ → ℕ → ℕ → ℕ → Session
+session c window count taken next end =
     record {
-      settings = c;
-      window = 4;
-      floor = next;
-      next = next;
-      end = end;
-      bytes = taken - (end - next);
-      lines = 5;
-      matches = 0;
-      left = 0;
-      given = false;
-      going = On;
-      input = Open;
-      replaced = Nowhere;
+      walk =
+          record {
+            settings = c;
+            bytes = taken - (end - next);
+            lines = count;
+            matches = 0;
+            left = 0;
+            given = false;
+            going = On;
+          };
+      places = record { window = window; floor = next; next = next; end = end; input = Open; replaced = Nowhere };
     }
+
+-- one that a caller made up
+abbrev pub madeUp : Settings → ℕ → ℕ → ℕ → Session
+madeUp c = session c 4 5
 
 -- "Window 4, B1, three lines of 2 bytes, all no: 3 at the third line; window 6 finishes. All yes: window 2 finishes."
 abbrev pub Rooms : List Script
 Rooms =
-    script (sevens 4) (start (context 1 0) ∷ drive 1 T3 [] ∷ []) (heard 0 ∷ drove 3 [] noRecord ∷ [])
+    script (sevens 4) (start (context 1 0) ∷ drive 1 T3 [] ∷ []) (heard 0 ∷ drove 3 [] zeros ∷ [])
     ∷ script (sevens 6) (start (context 1 0) ∷ drive 1 T3 [] ∷ []) (heard 0 ∷ drove 0 [] (e 6 3 0 0 0 0) ∷ [])
     ∷ script (sevens 2) (start (context 1 0) ∷ drive 1 T3 all ∷ [])
     (heard 0 ∷ drove 0 (r 1 0 2 1 ∷ r 1 2 2 2 ∷ r 1 4 2 3 ∷ []) (e 6 3 3 0 0 0) ∷ [])
     -- the kept part before any row: two empty lines, B 0, A 1, window 1
-    ∷ script (sevens 1) (start (context 0 1) ∷ drive 1 (10 ∷ 10 ∷ []) [] ∷ []) (heard 0 ∷ drove 3 [] noRecord ∷ [])
+    ∷ script (sevens 1) (start (context 0 1) ∷ drive 1 (10 ∷ 10 ∷ []) [] ∷ []) (heard 0 ∷ drove 3 [] zeros ∷ [])
     -- a last line without terminator that fills the window
     ∷ script (sevens 2) (start (context 0 0) ∷ drive 9 (97 ∷ 98 ∷ []) all ∷ []) (heard 0 ∷ drove 0 (r 1 0 2 1 ∷ []) (e 2 1 1 0 0 0) ∷ [])
     ∷ []
@@ -178,7 +197,11 @@ Refusals =
     (heard 0 ∷ heard 1 ∷ showed 6 [] ∷ heard 0 ∷ heard 2 ∷ [])
     ∷ script []
     (start (context 1001 0) ∷ start (context 0 0) ∷ offer T3 ∷ offer [] ∷ answer true 8 ∷ tell ∷ ask ∷ [])
-    (heard 1 ∷ heard 2 ∷ took 6 0 [] ∷ took 6 0 [] ∷ gave 6 [] (nines 8) ∷ heard 6 ∷ ended 6 noRecord ∷ [])
+    (heard 1 ∷ heard 2 ∷ took 6 0 [] ∷ took 6 0 [] ∷ gave 6 [] (nines 8) ∷ heard 6 ∷ ended 6 zeros ∷ [])
+    -- the session as opened; the closed one, a constant (docs/DECISIONS.md 14)
+    ∷ script (sevens 4)
+    (start (context 1 0) ∷ look ∷ start (context 1001 0) ∷ look ∷ [])
+    (heard 0 ∷ stood (session (context 1 0) 4 0 0 0 0) ∷ heard 1 ∷ stood (session (plain 0) 0 0 0 0 0) ∷ [])
     -- A and the limit at their bounds and past them; pass-through with context before or after
     ∷ script (sevens 1)
     (try (context 0 1000) 1
@@ -202,15 +225,23 @@ Refusals =
     ∷ script (sevens 2)
     (start (context 0 0) ∷ ask ∷ offer (97 ∷ []) ∷ tell ∷ ask ∷ answer true 4 ∷ ask ∷ tell ∷ ask ∷ [])
     (heard 0
-    ∷ ended 7 noRecord
+    ∷ ended 7 zeros
     ∷ took 0 1 (97 ∷ 7 ∷ [])
     ∷ heard 0
-    ∷ ended 7 noRecord
+    ∷ ended 7 zeros
     ∷ gave 0 (r 1 0 1 1 ∷ []) []
     ∷ ended 0 (e 1 1 1 0 0 0)
     ∷ heard 0
     ∷ ended 0 (e 1 1 1 0 0 0)
     ∷ [])
+    -- an empty piece, and one after the end, takes 0 and changes nothing; so does telling the end after a stop
+    ∷ script (sevens 4)
+    (start (context 0 0) ∷ offer (97 ∷ 10 ∷ 98 ∷ 99 ∷ []) ∷ answer false 8 ∷ offer [] ∷ [])
+    (heard 0 ∷ took 0 4 (97 ∷ 10 ∷ 98 ∷ 99 ∷ []) ∷ gave 0 [] (nines 8) ∷ took 0 0 (97 ∷ 10 ∷ 98 ∷ 99 ∷ []) ∷ [])
+    ∷ script (sevens 2)
+    (start (context 0 0) ∷ tell ∷ offer T3 ∷ show ∷ ask ∷ [])
+    (heard 0 ∷ heard 0 ∷ took 0 0 (sevens 2) ∷ showed 0 [] ∷ ended 0 zeros ∷ [])
+    ∷ script (sevens 2) (start unasked ∷ tell ∷ look ∷ []) (heard 0 ∷ heard 0 ∷ stood (opened unasked 2 .session) ∷ [])
     -- the size: one byte left, then none; 5 before 3; a Quit byte at the front before 5
     ∷ script (120 ∷ 121 ∷ 7 ∷ 7 ∷ [])
     (hand (madeUp (context 0 0) 4294967294 0 2) ∷ offer (97 ∷ 98 ∷ []) ∷ offer (98 ∷ []) ∷ [])
@@ -252,6 +283,26 @@ QuitBytes =
     ∷ took 0 0 (97 ∷ 10 ∷ 98 ∷ 10 ∷ [])
     ∷ showed 0 []
     ∷ ended 0 (e 2 1 1 2 0 0)
+    ∷ [])
+    -- of two replaced bytes the first is told, in one piece or in two
+    ∷ script (sevens 4)
+    (start converting ∷ offer (97 ∷ 0 ∷ 0 ∷ []) ∷ answer true 8 ∷ answer true 8 ∷ tell ∷ ask ∷ [])
+    (heard 0
+    ∷ took 0 3 (97 ∷ 10 ∷ 10 ∷ 7 ∷ [])
+    ∷ gave 0 (r 1 0 2 1 ∷ []) (nines 4)
+    ∷ gave 0 (r 1 2 1 2 ∷ []) (nines 4)
+    ∷ heard 0
+    ∷ ended 0 (e 3 2 2 0 1 1)
+    ∷ [])
+    ∷ script (sevens 4)
+    (start converting ∷ offer (97 ∷ 0 ∷ []) ∷ offer (0 ∷ []) ∷ answer true 8 ∷ answer true 8 ∷ tell ∷ ask ∷ [])
+    (heard 0
+    ∷ took 0 2 (97 ∷ 10 ∷ 7 ∷ 7 ∷ [])
+    ∷ took 0 1 (97 ∷ 10 ∷ 10 ∷ 7 ∷ [])
+    ∷ gave 0 (r 1 0 2 1 ∷ []) (nines 4)
+    ∷ gave 0 (r 1 2 1 2 ∷ []) (nines 4)
+    ∷ heard 0
+    ∷ ended 0 (e 3 2 2 0 1 1)
     ∷ [])
     -- a replaced byte that is taken and not gone through
     ∷ script (sevens 6)
@@ -322,7 +373,7 @@ Worked =
     ∷ gave 0 [] (nines 12)
     ∷ showed 0 (101 ∷ [])
     ∷ gave 0 (r 5 0 0 0 ∷ r 2 6 2 4 ∷ r 1 8 2 5 ∷ []) []
-    ∷ ended 7 noRecord
+    ∷ ended 7 zeros
     ∷ heard 0
     ∷ ended 0 (e 10 5 2 0 0 0)
     ∷ [])

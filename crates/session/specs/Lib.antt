@@ -2,7 +2,9 @@
 pub mod Held
 pub mod Sound
 pub mod Calls
+pub mod Place
 pub mod Run
 pub mod Promises
+pub mod Soon
 pub mod Caller
 pub mod Driven

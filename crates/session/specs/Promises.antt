@@ -90,7 +90,7 @@ Asked =
 
 -- every byte taken by one moment of a run: first the lines gone through, then what the window holds unanswered
 pub record Accounts (c : Settings) (input : List ℕ) (a : At) : Type 0 where
-  pub settings-stay : a .session .settings ≡ c
+  pub settings-stay : a .session .walk .settings ≡ c
   -- the bytes taken
   pub past : List ℕ
   pub input-is : input ≡ past ++ a .rest
@@ -100,7 +100,7 @@ pub record Accounts (c : Settings) (input : List ℕ) (a : At) : Type 0 where
   pub later : List (List ℕ)
   pub lines-are : lines (c .terminator) (text c input) ≡ gone ++ later
   pub count-is : length gone ≡ a .count
-  pub bytes-are : a .session .bytes ≡ length (flatten gone)
+  pub bytes-are : a .session .walk .bytes ≡ length (flatten gone)
   pub text-is : text c past ≡ flatten gone ++ unanswered (a .session) (a .window)
 
 -- Account. "counted from the history while the caller leaves the window untouched": no byte taken is lost, doubled or out of its place.
@@ -140,6 +140,8 @@ pub record Exactly (c : Settings) (input : List ℕ) (answers : ℕ → Bool) (a
       → (t : TooLong c input answers (length (a .window)) (a .count)) × (a .rows ≡ goneLines c answers (t .before) .rows)
   -- Where there is such a line, no run gets past it, ..
   pub never-past : (count : ℕ) → TooLong c input answers (length (a .window)) count → a .count ≤ count
+  -- .. none is finished, ..
+  pub never-ends : (count : ℕ) → TooLong c input answers (length (a .window)) count → Ends a → ⊥
   -- .. and every run can be carried on to where it is refused by 3 there.
   pub refused :
       Within c input → (count : ℕ) → TooLong c input answers (length (a .window)) count
@@ -160,7 +162,7 @@ pub record Serves (answers : ℕ → Bool) (a : At) : Type 0 where
   pub asks : waitingRefusal (waiting (a .session) (a .window)) ≡ 0
   pub answering :
       (table : List ℕ) (hit : Bool) → waiting (a .session) (a .window) ≡ LineWaits
-      → rowSize * (a .session .settings .before + 2) ≤ length table → answered (a .session) (a .window) table hit .refusal ≡ 0
+      → rowSize * (a .session .walk .settings .before + 2) ≤ length table → answered (a .session) (a .window) table hit .refusal ≡ 0
   pub tells : told (a .session) .refusal ≡ 0
   -- 7 where the end record is asked for too early
   pub records : (recorded (a .session) .refusal ≡ 0) ⊎ (recorded (a .session) .refusal ≡ 7)

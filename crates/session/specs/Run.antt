@@ -11,7 +11,7 @@ use Rattle.definition.specs.Rows.{rowSize}
 use Rattle.session.specs.declared.Input.the-variants.{Open}
 use Rattle.session.specs.declared.Session.{Session}
 use Rattle.session.specs.declared.Waiting.the-variants.{LineWaits}
-use Rattle.session.specs.Calls.{opened, offered, offeredWindow, waiting, answered, answeredTable, told}
+use Rattle.session.specs.Calls.{answered, answeredTable, offered, offeredWindow, opened, told, waiting}
 
 -- the first n rows of a row table
 unfoldable pub rowsIn : ℕ → List ℕ → List Row
@@ -88,11 +88,11 @@ pub data Steps (answers : ℕ → Bool) (from : At) : At → Type 0 where
   here : Steps answers from from
   offer : {a : At} (k : ℕ) → Steps answers from a → Steps answers from (atOffer k a)
   answer : {a : At} (table : List ℕ) → waiting (a .session) (a .window) ≡ LineWaits
-      → rowSize * (a .session .settings .before + 2) ≤ length table → Steps answers from a → Steps answers from (atAnswer answers table a)
+      → rowSize * (a .session .walk .settings .before + 2) ≤ length table → Steps answers from a → Steps answers from (atAnswer answers table a)
   ask : {a : At} → Steps answers from a → Steps answers from a
   refused : {a : At} (table : List ℕ) (hit : Bool) → (answered (a .session) (a .window) table hit .refusal ≡ 0 → ⊥)
       → Steps answers from a → Steps answers from (atRefused table hit a)
-  tell : {a : At} → (a .session .going ≡ On → a .session .input ≡ Open → a .rest ≡ []) → Steps answers from a → Steps answers from (atEnd a)
+  tell : {a : At} → (a .session .walk .going ≡ On → a .session .places .input ≡ Open → a .rest ≡ []) → Steps answers from a → Steps answers from (atEnd a)
 
 -- A run: any settings and a window of any length and contents, if the opening is served, and then such steps.
 pub record Run (c : Settings) (input : List ℕ) (answers : ℕ → Bool) (a : At) : Type 0 where

@@ -1,8 +1,7 @@
-// A session's state and the answers of its calls, as plain data. What the calls do is in specs/, as functions of these.
+// A session's state and the outcomes of its calls, as plain data. What the calls do is in specs/, as functions of these.
+use core::Walk;
 use definition::End;
-use definition::Going;
 use definition::Place;
-use definition::Settings;
 
 // How the input stands.
 pub enum Input {
@@ -12,40 +11,24 @@ pub enum Input {
     QuitFound,
 }
 
-pub struct Session {
-    pub settings: Settings,
+// The places in a window, and how the input stands.
+pub struct Places {
     // the window's length; 0 in a closed session
     pub window: usize,
-    // places in the window: just after the last line with a row, or 0 where that is no longer held; the first byte not
-    // yet answered; the held end
+    // just after the last line with a row, or 0 where that is no longer held; the first byte not yet answered; the held
+    // end
     pub floor: usize,
     pub next: usize,
     pub end: usize,
-    // gone through
-    pub bytes: u64,
-    pub lines: u64,
-    pub matches: u64,
-    // lines of after-context still owed
-    pub left: usize,
-    // whether some row was given
-    pub given: bool,
-    pub going: Going,
     pub input: Input,
     // the first replaced byte among those taken
     pub replaced: Place,
 }
 
-// What an offer does: refuse by a number, change nothing, or take bytes, and whether a Quit byte comes next after them.
-pub enum Offering {
-    OfferRefused(u64),
-    Idle,
-    Take(usize, bool),
-}
-
-// What an answer does: refuse by a number, or give rows.
-pub enum Answering {
-    AnswerRefused(u64),
-    Give,
+pub struct Session {
+    // knows no window
+    pub walk: Walk,
+    pub places: Places,
 }
 
 // Whether a line waits; the last is refusal 6.
@@ -55,25 +38,25 @@ pub enum Waiting {
     WaitingRefused,
 }
 
-pub struct Opened {
+pub struct OpenOutcome {
     pub refusal: u64,
     pub session: Session,
 }
 
-pub struct Offered {
+pub struct OfferOutcome {
     pub refusal: u64,
     pub taken: usize,
     pub session: Session,
 }
 
-pub struct Answered {
+pub struct AnswerOutcome {
     pub refusal: u64,
     // how many rows were written
     pub rows: usize,
     pub session: Session,
 }
 
-pub struct Told {
+pub struct TellOutcome {
     pub refusal: u64,
     pub session: Session,
 }

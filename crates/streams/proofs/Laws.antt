@@ -23,7 +23,7 @@ use Rattle.streams.specs.declared.Left.the-variants.{Done, More}
 use Rattle.streams.specs.declared.Moved.{Moved}
 use Rattle.streams.specs.declared.Moved.the-variants.{Bytes, Nothing, Interrupted, Failed}
 use Rattle.streams.specs.declared.Pending.{Pending}
-use Rattle.streams.specs.Moves.{Within, isSignal, leftOf, movedOf, unmovedBy}
+use Rattle.streams.specs.Moves.{MovedWithin, isSignal, leftOf, movedOf, unmovedBy}
 use Rattle.streams.specs.Output.{Tells, added, collected, collectedIn, decimal, fits, glyphOf, hexText, hexed, spelled}
 
 pub room-left : (at size all : ℕ) → at ≤ all → leb size (all - at) ≡ leb (at + size) all
@@ -86,16 +86,16 @@ moved-bytes (negsuc n) error most h k =
     let z : _≡_ {A = ℕ} 0 1 = cc in
     absurd (omega arith)
 
-unmoved-within : (error : ℤ) (buffer : List ℕ) → Within (unmovedBy error) buffer
+unmoved-within : (error : ℤ) (buffer : List ℕ) → MovedWithin (unmovedBy error) buffer
 unfolding unmovedBy
 unmoved-within error buffer = picked (isSignal error)
   where
-    picked : (b : Bool) → Within (cond b Interrupted (Failed error)) buffer
+    picked : (b : Bool) → MovedWithin (cond b Interrupted (Failed error)) buffer
     picked true = tt
     picked false = tt
 
 -- a read that gives a count which its buffer holds has moved so many bytes into it
-pub moved-within : (count error : ℤ) (buffer : List ℕ) → Io.Moved (length buffer) count → Within (movedOf count error (length buffer)) buffer
+pub moved-within : (count error : ℤ) (buffer : List ℕ) → Io.Moved (length buffer) count → MovedWithin (movedOf count error (length buffer)) buffer
 moved-within (pos zero) error buffer h = tt
 moved-within (pos (suc n)) error buffer h = (omega (arith, h), omega arith)
 moved-within (negsuc n) error buffer h = unmoved-within error buffer

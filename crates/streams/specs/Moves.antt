@@ -33,8 +33,8 @@ leftOf Interrupted size = More size
 leftOf (Failed e) size = Stuck
 
 -- what a read moved lies at the buffer's front
-abbrev pub Within : Moved → List ℕ → Type 0
-Within (Bytes n) buffer = (0 < n) × (n ≤ length buffer)
-Within Nothing buffer = Unit
-Within Interrupted buffer = Unit
-Within (Failed e) buffer = Unit
+abbrev pub MovedWithin : Moved → List ℕ → Type 0
+MovedWithin (Bytes n) buffer = (0 < n) × (n ≤ length buffer)
+MovedWithin Nothing buffer = Unit
+MovedWithin Interrupted buffer = Unit
+MovedWithin (Failed e) buffer = Unit

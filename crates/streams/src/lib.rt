@@ -1,15 +1,14 @@
 // The programs' standard input and output. What a call of read or write did is a function of the count that it gave. Output
 // is collected in a lent buffer, which the program writes before it waits for more input.
-use definition::Binary;
 use libc::EINTR;
 use libc::STDIN_FILENO;
 use libc::STDOUT_FILENO;
 ghost use mathlib.Core.Path.{_≡_};
-ghost use Prim.Native.Nat.{_+_, _≤_, _<_, min};
+ghost use Prim.Native.Nat.{_+_, _≤_, _<_};
 ghost use lib.Dec.{leb};
 ghost use lib.ListN.{length};
 ghost use Rattle.definition.specs.Text.{putAt};
-ghost use Rattle.streams.specs.Moves.{Within, leftOf, movedOf, unmovedBy};
+ghost use Rattle.streams.specs.Moves.{MovedWithin, leftOf, movedOf, unmovedBy};
 ghost use Rattle.streams.specs.Output.{added, collected, collectedIn, decimal, failedRead, glyphOf, hexText, none};
 
 // What a call of read or write did: it moved so many bytes, or none; or a signal came first, or it failed, with this errno.
@@ -44,7 +43,7 @@ pub fn nothing_pending() -> Pending
 
 // Reads once from standard input. Nothing moves at the end of the input, or into an empty buffer.
 pub fn read(buffer: &mut [u8]) -> Moved
-    ensures { λ r. ⌜ Within r (now (buffer .exit)) ⌝ }
+    ensures { λ r. ⌜ MovedWithin r (now (buffer .exit)) ⌝ }
 {
     let count = libc::read(STDIN_FILENO, buffer);
     moved_by(count, os::errno(), buffer.len())
@@ -60,7 +59,7 @@ fn moved_by(count: isize, error: i32, most: usize) -> Moved
     if count == 0 {
         return Moved::Nothing;
     }
-    Moved::Bytes(least(count as usize, most))
+    Moved::Bytes(numbers::least(count as usize, most))
 }
 
 fn unmoved(error: i32) -> Moved
@@ -141,7 +140,7 @@ fn stored(out: &mut [u8], pending: Pending, text: &[u8]) -> Pending
     ensures { λ r. ⌜ (r ≡ added pending (now (text .entry))) × (now (out .exit) ≡ putAt (pending .length) (now (text .entry)) (now (out .entry))) ⌝ }
 {
     let at = pending.length;
-    line_buffer::take_in(out, at, text, Binary::Ignore, 0);
+    bytes::copy(text, &mut out[at..]);
     Pending {
         length: at + text.len(),
         lost: pending.lost,
@@ -228,10 +227,4 @@ fn glyph(digit: u8) -> u8
     } else {
         b'a' + (digit - 10)
     }
-}
-
-fn least(a: usize, b: usize) -> usize
-    ensures { λ r. ⌜ r ≡ min a b ⌝ }
-{
-    if a < b { a } else { b }
 }

@@ -19,8 +19,7 @@ use Rattle.machine.specs.Program.{fed, fedWindow, feeds, stays, tableSize, turn
 use Rattle.searcher.specs.declared.Answered.{Answered}
 use Rattle.searcher.specs.Door.{doorAnswered}
 use Rattle.searcher.proofs.Laws.{rows-le}
-use Rattle.session.specs.declared.Answering.{Answering}
-use Rattle.session.specs.declared.Answering.the-variants.{AnswerRefused, Give}
+use Rattle.core.specs.Answer.{AnswerDecision, AnswerRefused, Give}
 use Rattle.session.specs.declared.Session.{Session}
 use Rattle.session.specs.Calls.{answerAnswer, answerRows, answerSession, answered, answeredTable, answering, offered, offeredWindow, recorded, shownLine}
 use Rattle.session.proofs.Cases.{AnswerCase, answer-case, below, few, gives, none, unsound}
@@ -33,14 +32,14 @@ use Rattle.printing.proofs.Laws.{rows-put}
 -- # Answered or not
 
 -- what an answer is, by its refusal
-given : (s : Session) (w : List ℕ) (n : ℕ) (hit : Bool) (o : Answering) → AnswerCase s w n hit o → answerAnswer o s w hit .refusal ≡ 0 → o ≡ Give
+given : (s : Session) (w : List ℕ) (n : ℕ) (hit : Bool) (o : AnswerDecision) → AnswerCase s w n hit o → answerAnswer o s w hit .refusal ≡ 0 → o ≡ Give
 given s w n hit _ (unsound e) h = absurd (omega arith)
 given s w n hit _ (none e v) h = absurd (omega arith)
 given s w n hit _ (below e v b) h = absurd (omega arith)
 given s w n hit _ (few e v b m) h = absurd (omega arith)
 given s w n hit _ (gives e v b m) h = refl
 
-refused-by : (o : Answering) (s : Session) (w : List ℕ) (hit : Bool) → (answerAnswer o s w hit .refusal ≡ 0 → ⊥)
+refused-by : (o : AnswerDecision) (s : Session) (w : List ℕ) (hit : Bool) → (answerAnswer o s w hit .refusal ≡ 0 → ⊥)
     → o ≡ AnswerRefused (answerAnswer o s w hit .refusal)
 refused-by (AnswerRefused k) s w hit h = refl
 refused-by Give s w hit h = absurd (h refl)

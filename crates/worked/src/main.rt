@@ -1,23 +1,13 @@
 // 01's T through a window of 6 bytes: prints the rows of P2, one a line. A program over the driver with a matcher and an output
 // of its own; all else is `driving`.
-use definition::Binary;
-use definition::Limit;
 use definition::Settings;
 use machine::Next;
 use searcher::Searcher;
 ghost use Prim.Native.Nat.{_<_};
 
 fn main() {
-    let settings = Settings {
-        before: 1,
-        after: 0,
-        invert: false,
-        passthru: false,
-        stop: false,
-        limit: Limit::Unlimited,
-        terminator: b'\n',
-        binary: Binary::Ignore,
-    };
+    let plain = Settings::plain(b'\n');
+    let settings = Settings { before: 1, ..plain };
     let opened = Searcher::open(settings, 6);
     search(opened.searcher, b"a\nb\nc\nd\ne\n");
 }

@@ -1,13 +1,14 @@
--- 6 first: an unsound session, then no line; else by the line.
+-- 6 on its own account and where no line waits; else the line is given.
 use mathlib.Core.Path.{_≡_, sym, _∙_}
-use mathlib.Core.Bool.{true}
+use mathlib.Core.Bool.{true, false}
 use native.Mathlib.Omega.{arith}
 use lib.ListN.{length}
 use borrow.Author.Tests.{not-false, not-true}
+use Rattle.core.proofs.Laws.{waits-line, waits-none}
+use Rattle.session.specs.Held.{isOpen, lineLength, unanswered, waits}
 use Rattle.session.specs.Sound.{sound}
 use Rattle.session.proofs.Cases as Cases
 use Rattle.session.proofs.Keeps.{sound-agrees, sound-window}
-use Rattle.held.proofs.Laws.{waits-line, waits-none}
 use Rattle.answering.proofs.Laws.{answered-refused}
 use borrow.Author.Needs.{needs}
 use Rattle.answering.proofs.answer.Statement.{statement}
@@ -19,41 +20,37 @@ use Rattle.answering.proofs.refused.Reads as refused-reads
 use Rattle.held.proofs.is_sound.Reads as is-sound-reads
 use Rattle.held.proofs.next_line.Reads as next-line-reads
 
--- src/lib.rt:30:9
 is-sound-requires : tie.Need-is-sound-requires
 is-sound-requires c κs = search needs
 
--- src/lib.rt:31:9
 refused-requires : tie.Need-refused-requires
 refused-requires c κs = search needs
 
--- src/lib.rt:31:9
 returns : tie.Need-returns
 returns c =
     let a = c .before .before .before .before .before .args in
     let is = answered-refused (a .s) (a .window .now) (a .table .now) (a .hit) (Cases.unsound (sym (c .before .before .is-sound .ensures) ∙ not-true _ (c .before .if1 .taken))) in
     (c .refused .ensures ∙ is .0, is .1)
 
-sounds : (c : tie.Else1) → let a = c .before .before .before .before .args in sound (a .s) (length (a .window .now)) ≡ true
+sounds : (c : tie.Else1) → sound (c .before .before .before .before .args .s) (length (c .before .before .before .before .args .window .now)) ≡ true
 sounds c = sym (c .before .is-sound .ensures) ∙ not-false _ (c .if1 .left)
 
--- src/lib.rt:33:11
 next-line-requires : tie.Need-next-line-requires
 next-line-requires c κs =
     let a = c .before .before .before .before .args in
-    let agree = sound-agrees (a .s) (length (a .window .now)) (sounds c) in
-    (agree .next-end, omega (arith, agree, sound-window (a .s) (length (a .window .now)) (sounds c)))
+    let p = sound-agrees (a .s) (length (a .window .now)) (sounds c) .places in
+    (p .next-end, omega (arith, p, sound-window (a .s) (length (a .window .now)) (sounds c)))
 
--- src/lib.rt:34:24
 enum-known-length : tie.Need-enum-known-length
 enum-known-length c = search needs
 
--- src/lib.rt:34:35
 give-requires : tie.Need-give-requires
+unfolding waits lineLength
 give-requires c κs =
     let a = c .before .before .before .before .before .before .before .before .before .args in
     let e = sounds (c .before .before .before .before .before) in
-    let line = waits-line (a .s) (a .window .now) (c .before .before .length .given .0 .0) (sym (c .before .before .length .given .1) ∙ c .before .before .before .before .next-line .ensures) in
+    let line =
+    waits-line (a .s .walk) (isOpen (a .s .places .input)) (unanswered (a .s) (a .window .now)) _ (sym (c .before .before .length .given .1) ∙ c .before .before .before .before .next-line .ensures) in
     record {
       agree = sound-agrees (a .s) (length (a .window .now)) e;
       same = sound-window (a .s) (length (a .window .now)) e;
@@ -61,28 +58,30 @@ give-requires c κs =
       length-is = line .1;
     }
 
--- src/lib.rt:35:29
 enum-told : tie.Need-enum-told
 enum-told c = search needs
 
--- src/lib.rt:35:29
 refused-requires-2 : tie.Need-refused-requires-2
 refused-requires-2 c κs = search needs
 
--- src/lib.rt:26:1
 same-length : tie.Need-same-length
 same-length c = search needs
 
--- src/lib.rt:26:1
 returns-2 : tie.Need-returns-2
 returns-2 c = search needs
 
--- src/lib.rt:26:1
+none-waits : (c : tie.After-enum-told)
+    → let a = c .before .before .before .before .before .before .before .args in
+    waits (a .s) (a .window .now) ≡ false
+unfolding waits
+none-waits c =
+    let a = c .before .before .before .before .before .before .before .args in
+    waits-none (a .s .walk) (isOpen (a .s .places .input)) (unanswered (a .s) (a .window .now)) (sym (c .enum-told .given .1) ∙ c .before .before .next-line .ensures)
+
 returns-3 : tie.Need-returns-3
 returns-3 c =
     let a = c .before .before .before .before .before .before .before .before .args in
-    let v = waits-none (a .s) (a .window .now) (sym (c .before .enum-told .given .1) ∙ c .before .before .before .next-line .ensures) in
-    let is = answered-refused (a .s) (a .window .now) (a .table .now) (a .hit) (Cases.none (sounds (c .before .before .before .before)) v) in
+    let is = answered-refused (a .s) (a .window .now) (a .table .now) (a .hit) (Cases.none (sounds (c .before .before .before .before)) (none-waits (c .before))) in
     (c .refused2 .ensures ∙ is .0, is .1)
 
 pub answer-spec : {M : Type 1} → statement M

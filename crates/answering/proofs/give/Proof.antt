@@ -1,143 +1,113 @@
--- By what becomes of the line.
-use mathlib.Core.Path.{_≡_, refl, sym, _∙_}
+-- As the core answers it, with the places moved on.
+use Prim.Native.Nat.{_+_, _≤_}
+use mathlib.Core.Path.{_≡_, _∙_}
+use mathlib.Core.Bool.{true}
 use native.Mathlib.Omega.{arith}
-use Rattle.definition.specs.declared.Fate.the-variants.{Match, After, Other, NoRow}
-use Rattle.definition.specs.Rows.{afterKind, otherKind}
-use Rattle.definition.specs.State.{fateOf}
 use lib.ListN.{length}
-use Rattle.session.specs.Held.{shown}
+use Rattle.core.specs.Answer.{given}
+use Rattle.core.specs.Walk.{WalkAgree}
+use Rattle.core.proofs.Keeps.{agree-fewer}
+use Rattle.session.specs.Held.{lineLength, since}
+use Rattle.session.specs.Sound.{sound}
 use Rattle.session.proofs.Keeps.{line-le}
+use Rattle.session.proofs.Parts.{part-length}
 use Rattle.held.proofs.Laws.{sound-of}
-use Rattle.answering.specs.Giving.{Stepping}
-use Rattle.answering.proofs.Laws.{after-row, answered-as, line-answer, line-table, none-answer, none-table, other-row}
+use Rattle.answering.proofs.Laws.{given-refused, given-served, table-given}
 use borrow.Author.Needs.{needs}
 use Rattle.answering.proofs.give.Statement.{statement}
 use Rattle.answering.proofs.give.Tie as tie
 use Rattle.answering.proofs.give.Reads as reads
 use Rattle.answering.proofs.give.Lts as lts
-use Rattle.answering.proofs.becomes.Reads as becomes-reads
-use Rattle.answering.proofs.give_line.Reads as give-line-reads
-use Rattle.answering.proofs.give_match.Reads as give-match-reads
-use Rattle.answering.proofs.served.Reads as served-reads
-use Rattle.answering.proofs.stepped.Reads as stepped-reads
+use Rattle.answering.proofs.places_next.Reads as places-next-reads
+use Rattle.stepping.proofs.gets_row.Reads as gets-row-reads
+use Rattle.stepping.proofs.step.Reads as step-reads
+use Rattle.answering.proofs.refused.Reads as refused-reads
+use Rattle.giving.proofs.answer.Reads as answer-reads
 
--- src/lib.rt:65:9
-becomes-requires : tie.Need-becomes-requires
-becomes-requires c κs = search needs
+sub-answer : tie.Need-sub-answer
+sub-answer c = search needs
 
--- src/lib.rt:67:46
-enum-told : tie.Need-enum-told
-enum-told c = search needs
+part-answer-start : tie.Need-part-answer-start
+part-answer-start c = search needs
 
-steps : (c : tie.Start) → Stepping (c .args .s) (c .args .length)
-steps s = record { agree = s .pre .agree; inside = omega (arith, s .pre .length-is, line-le (s .args .s) (s .args .window .now), s .pre .agree) }
+part-answer-end : tie.Need-part-answer-end
+part-answer-end c = search needs
 
-fated : (c : tie.After-becomes) → let a = c .before .before .before .before .args in fateOf (a .s .settings) (shown (a .s) (a .window .now)) (a .hit) ≡ c .becomes .result
-unfolding fateOf shown
-fated c = sym (c .becomes .ensures)
+sounds : (c : tie.Start) → sound (c .args .s) (length (c .args .window .now)) ≡ true
+sounds c = sound-of (c .args .s) (length (c .args .window .now)) (c .pre .agree) (c .pre .same)
 
--- src/lib.rt:67:24
-give-match-requires : tie.Need-give-match-requires
-give-match-requires c κs = search needs
+fits : (c : tie.Start) → c .args .s .places .next + c .args .length ≤ c .args .s .places .end
+fits c = omega (arith, c .pre .length-is, line-le (c .args .s) (c .args .window .now), c .pre .agree .places)
 
--- src/lib.rt:68:37
-enum-told-2 : tie.Need-enum-told-2
-enum-told-2 c = search needs
+agrees : (c : tie.Start) → WalkAgree (c .args .s .walk) (length (since (c .args .s) (c .args .window .now))) (c .args .length)
+agrees c =
+    let a = c .args in
+    let p = c .pre .agree .places in
+    let size = part-length (a .s .places .floor) (a .s .places .next) (a .window .now) (p .floor-next) (omega (arith, p, c .pre .same)) in
+    rw size (agree-fewer (a .s .walk) _ _ _ (a .length) (c .pre .agree .walk) (omega arith) (omega (arith, fits c, c .pre .agree .walk .size)))
 
--- src/lib.rt:68:24
-give-line-requires : tie.Need-give-line-requires
-give-line-requires c κs = steps (c .before .before .before .before .before .before .before)
+answer-requires : tie.Need-answer-requires
+answer-requires c κs = agrees (c .before .before .before .before .before .before)
 
--- src/lib.rt:69:37
-enum-told-3 : tie.Need-enum-told-3
-enum-told-3 c = search needs
+refused-requires : tie.Need-refused-requires
+refused-requires c κs = search needs
 
--- src/lib.rt:69:24
-give-line-requires-2 : tie.Need-give-line-requires-2
-give-line-requires-2 c κs = steps (c .before .before .before .before .before .before .before)
-
--- src/lib.rt:70:50
-enum-told-4 : tie.Need-enum-told-4
-enum-told-4 c = search needs
-
--- src/lib.rt:70:31
-stepped-requires : tie.Need-stepped-requires
-stepped-requires c κs = steps (c .before .before .before .before .before .before)
-
--- src/lib.rt:70:24
-served-requires : tie.Need-served-requires
-served-requires c κs = search needs
-
--- src/lib.rt:59:1
 same-length : tie.Need-same-length
 same-length c = search needs
 
--- src/lib.rt:59:1
+gave : (c : tie.After-answer)
+    → let a = c .before .before .before .before .before .before .before .args in
+    c .answer .result ≡ given (a .s .walk) (since (a .s) (a .window .now)) (lineLength (a .s) (a .window .now)) (a .table .now) (a .hit)
+gave c = rw (c .before .before .before .before .before .before .before .pre .length-is) at (c .answer .ensures .0)
+
 returns : tie.Need-returns
 returns c =
-    let s = c .before .before .before .before .before .before .before .before .before .before in
+    let s = c .before .before .before .before .before .before .before .before .before .before .before .before in
     let a = s .args in
-    let is = answered-as (a .s) (a .window .now) (a .hit) (sound-of (a .s) (length (a .window .now)) (s .pre .agree) (s .pre .same)) (s .pre .waiting) Match (a .table .now) (fated (c .before .before .before .before .before .before) ∙ c .before .before .before .before .enum-told .given .1) in
-    (c .before .before .give-match .ensures .0 ∙ is .0, c .before .before .give-match .ensures .1 ∙ is .1)
+    let g = c .before .before .before .before .before in (
+      c .refused .ensures
+          ∙ given-refused (a .s) (a .window .now) (a .table .now) (a .hit) (sounds s) (s .pre .waiting) (g .answer .result) (gave g) (c .before .if1 .taken),
+      rw (s .pre .length-is) at (g .answer .ensures .1) ∙ table-given (a .s) (a .window .now) (a .table .now) (a .hit) (sounds s) (s .pre .waiting),
+    )
 
--- src/lib.rt:59:1
+step-requires : tie.Need-step-requires
+step-requires c κs =
+    let s = c .before .before .before .before .before .before .before .before .before .before .before in
+    let w = s .pre .agree .walk in
+    record { size = omega (arith, fits s, w .size); counted = omega (arith, w); matched = omega (arith, w) }
+
+gets-row-requires : tie.Need-gets-row-requires
+gets-row-requires c κs = search needs
+
+places-next-requires : tie.Need-places-next-requires
+places-next-requires c κs = fits (c .before .before .before .before .before .before .before .before .before .before .before .before .before)
+
 same-length-2 : tie.Need-same-length-2
 same-length-2 c = search needs
 
--- src/lib.rt:59:1
 returns-2 : tie.Need-returns-2
 returns-2 c =
-    let s = c .before .before .before .before .before .before .before .before .before .before in
+    let s = c .before .before .before .before .before .before .before .before .before .before .before .before .before .before in
     let a = s .args in
-    let is = answered-as (a .s) (a .window .now) (a .hit) (sound-of (a .s) (length (a .window .now)) (s .pre .agree) (s .pre .same)) (s .pre .waiting) After (a .table .now) (fated (c .before .before .before .before .before .before) ∙ c .before .before .before .before .enum-told2 .given .1) in
-    let one = after-row (a .s) (a .window .now) in (
-      rw (s .pre .length-is) at (c .before .before .give-line .ensures .0) ∙ line-answer After afterKind (a .s) (a .window .now) refl one (length (a .table .now)) ∙ is .0,
-      rw (s .pre .length-is) at (c .before .before .give-line .ensures .1) ∙ line-table After afterKind (a .s) (a .window .now) refl one (a .table .now) ∙ is .1,
-    )
-
--- src/lib.rt:59:1
-same-length-3 : tie.Need-same-length-3
-same-length-3 c = search needs
-
--- src/lib.rt:59:1
-returns-3 : tie.Need-returns-3
-returns-3 c =
-    let s = c .before .before .before .before .before .before .before .before .before .before in
-    let a = s .args in
-    let is = answered-as (a .s) (a .window .now) (a .hit) (sound-of (a .s) (length (a .window .now)) (s .pre .agree) (s .pre .same)) (s .pre .waiting) Other (a .table .now) (fated (c .before .before .before .before .before .before) ∙ c .before .before .before .before .enum-told3 .given .1) in
-    let one = other-row (a .s) (a .window .now) in (
-      rw (s .pre .length-is) at (c .before .before .give-line2 .ensures .0) ∙ line-answer Other otherKind (a .s) (a .window .now) refl one (length (a .table .now)) ∙ is .0,
-      rw (s .pre .length-is) at (c .before .before .give-line2 .ensures .1) ∙ line-table Other otherKind (a .s) (a .window .now) refl one (a .table .now) ∙ is .1,
-    )
-
--- src/lib.rt:59:1
-returns-4 : tie.Need-returns-4
-returns-4 c =
-    let s = c .before .before .before .before .before .before .before .before in
-    let a = s .args in
-    let is = answered-as (a .s) (a .window .now) (a .hit) (sound-of (a .s) (length (a .window .now)) (s .pre .agree) (s .pre .same)) (s .pre .waiting) NoRow (a .table .now) (fated (c .before .before .before .before) ∙ c .before .before .enum-told4 .given .1) in (
-      rw (c .before .stepped .ensures, s .pre .length-is) at (c .served .ensures) ∙ none-answer (a .s) (a .window .now) (length (a .table .now)) ∙ is .0,
-      none-table (a .s) (a .window .now) (a .table .now) ∙ is .1,
+    let g = c .before .before .before .before .before .before .before in (
+      rw (c .places-next .ensures, c .before .gets-row .ensures, c .before .before .step .ensures, s .pre .length-is)
+          (given-served (a .s) (a .window .now) (a .table .now) (a .hit) (sounds s) (s .pre .waiting) (g .answer .result) (gave g) (omega (arith, c .before .before .before .if1 .left))),
+      rw (s .pre .length-is) at (g .answer .ensures .1) ∙ table-given (a .s) (a .window .now) (a .table .now) (a .hit) (sounds s) (s .pre .waiting),
     )
 
 pub give-spec : {M : Type 1} → statement M
 give-spec =
     tie.close
     (tie.spec
-    becomes-requires
-    enum-told
-    give-match-requires
-    enum-told-2
-    give-line-requires
-    enum-told-3
-    give-line-requires-2
-    enum-told-4
-    stepped-requires
-    served-requires
+    sub-answer
+    part-answer-start
+    part-answer-end
+    answer-requires
+    refused-requires
     same-length
     returns
+    step-requires
+    gets-row-requires
+    places-next-requires
     same-length-2
-    returns-2
-    same-length-3
-    returns-3
-    returns-4)
+    returns-2)

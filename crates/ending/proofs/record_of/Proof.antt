@@ -5,9 +5,13 @@ use Rattle.ending.proofs.record_of.Statement.{statement}
 use Rattle.ending.proofs.record_of.Tie as tie
 use Rattle.ending.proofs.record_of.Reads as reads
 use Rattle.ending.proofs.record_of.Lts as lts
-use Rattle.ending.proofs.cause_of.Reads as cause-of-reads
-use Rattle.ending.proofs.end_with.Reads as end-with-reads
+use Rattle.ahead.proofs.cause_of.Reads as cause-of-reads
+use Rattle.ahead.proofs.end_with.Reads as end-with-reads
+use Rattle.ending.proofs.is_quit.Reads as is-quit-reads
 use Rattle.ending.proofs.recorded_place.Reads as recorded-place-reads
+
+is-quit-requires : tie.Need-is-quit-requires
+is-quit-requires c κs = search needs
 
 cause-of-requires : tie.Need-cause-of-requires
 cause-of-requires c κs = search needs
@@ -20,7 +24,8 @@ end-with-requires c κs = search needs
 
 returns : tie.Need-returns
 unfolding recordOf
-returns c = rw (c .end-with .ensures, c .before .recorded-place .ensures, c .before .before .cause-of .ensures)
+returns c =
+    rw (c .end-with .ensures, c .before .recorded-place .ensures, c .before .before .cause-of .ensures, c .before .before .before .is-quit .ensures)
 
 pub record-of-spec : {M : Type 1} → statement M
-record-of-spec = tie.close (tie.spec cause-of-requires recorded-place-requires end-with-requires returns)
+record-of-spec = tie.close (tie.spec is-quit-requires cause-of-requires recorded-place-requires end-with-requires returns)

@@ -32,15 +32,15 @@ gone-through-requires c κs = search needs
 
 returns-2 : tie.Need-returns-2
 unfolding recordedPlace
-returns-2 c = rw (ne-eqb (c .before .before .before .before .args .cause) 1 (c .before .before .before .if1 .left), c .enum-told .given .1)
+returns-2 c = rw (ne-eqb (c .before .before .before .before .before .before .args .cause) 1 (c .before .before .before .before .before .if1 .left), c .enum-told .given .1)
 
 returns-3 : tie.Need-returns-3
 unfolding recordedPlace
-returns-3 c = rw (ne-eqb (c .before .before .before .before .args .cause) 1 (c .before .before .before .if1 .left), c .enum-told2 .given .1)
+returns-3 c = rw (ne-eqb (c .before .before .before .before .before .before .args .cause) 1 (c .before .before .before .before .before .if1 .left), c .enum-told2 .given .1)
 
 returns-4 : tie.Need-returns-4
 unfolding recordedPlace
-returns-4 c = rw (ne-eqb (c .before .before .before .before .before .args .cause) 1 (c .before .before .before .before .if1 .left), c .before .enum-told3 .given .1) (c .gone-through .ensures)
+returns-4 c = rw (ne-eqb (c .before .before .before .before .before .before .before .args .cause) 1 (c .before .before .before .before .before .before .if1 .left), c .before .enum-told3 .given .1) (c .gone-through .ensures)
 
 pub recorded-place-spec : {M : Type 1} → statement M
 recorded-place-spec =

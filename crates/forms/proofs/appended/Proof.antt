@@ -5,41 +5,30 @@ use Rattle.forms.proofs.Laws.{not-high, not-low, one-more, too-large}
 use borrow.Author.Needs.{needs}
 use Rattle.forms.proofs.appended.Statement.{statement}
 use Rattle.forms.proofs.appended.Tie as tie
-use Rattle.forms.proofs.appended.Reads as reads
-use Rattle.forms.proofs.appended.Lts as lts
-use Rattle.forms.proofs.wide.Reads as wide-reads
 
--- src/lib.rt:107:9
 returns : tie.Need-returns
 returns c = sym (not-low (c .before .args .value) (c .before .args .glyph) (c .if1 .taken))
 
--- src/lib.rt:110:9
 returns-2 : tie.Need-returns-2
 returns-2 c = sym (not-high (c .before .before .args .value) (c .before .before .args .glyph) (c .if2 .taken))
 
--- src/lib.rt:112:9
 wide-requires : tie.Need-wide-requires
 wide-requires c κs = search needs
 
--- src/lib.rt:113:9
 sub-if3 : tie.Need-sub-if3
 sub-if3 c = search needs
 
--- src/lib.rt:114:9
 returns-3 : tie.Need-returns-3
 returns-3 c =
     let a = c .before .before .before .before .args in
     sym (too-large (a .value) (a .glyph) (c .before .before .before .if1 .left) (c .before .before .if2 .left) (omega arith))
 
--- src/lib.rt:116:19
 mul-t6 : tie.Need-mul-t6
 mul-t6 c = search needs
 
--- src/lib.rt:116:19
 add-t7 : tie.Need-add-t7
 add-t7 c = search needs
 
--- src/lib.rt:103:1
 returns-4 : tie.Need-returns-4
 returns-4 c =
     let a = c .before .before .before .before .args in

@@ -4,36 +4,25 @@ use borrow.Author.Tests.{not-false, not-true}
 use borrow.Author.Needs.{needs}
 use Rattle.forms.proofs.asking.Statement.{statement}
 use Rattle.forms.proofs.asking.Tie as tie
-use Rattle.forms.proofs.asking.Reads as reads
-use Rattle.forms.proofs.asking.Lts as lts
-use Rattle.forms.proofs.are_right.Reads as are-right-reads
-use Rattle.forms.proofs.settings_for.Reads as settings-for-reads
 
--- src/lib.rt:202:9
 are-right-requires : tie.Need-are-right-requires
 are-right-requires c κs = search needs
 
--- src/lib.rt:203:9
 returns : tie.Need-returns
 returns c = rw (sym (c .before .are-right .ensures) ∙ not-true _ (c .if1 .taken))
 
--- src/lib.rt:206:19
 enum-known-most : tie.Need-enum-known-most
 enum-known-most c = search needs
 
--- src/lib.rt:206:40
 settings-for-requires : tie.Need-settings-for-requires
 settings-for-requires c κs = search needs
 
--- src/lib.rt:207:27
 enum-told : tie.Need-enum-told
 enum-told c = search needs
 
--- src/lib.rt:192:1
 returns-2 : tie.Need-returns-2
 returns-2 c = rw (sym (c .before .before .before .before .before .are-right .ensures) ∙ not-false _ (c .before .before .before .before .if1 .left), c .before .before .most .given .1, c .settings-for .ensures)
 
--- src/lib.rt:192:1
 returns-3 : tie.Need-returns-3
 returns-3 c = rw (sym (c .before .before .before .are-right .ensures) ∙ not-false _ (c .before .before .if1 .left), c .enum-told .given .1)
 

@@ -9,9 +9,6 @@ use Rattle.forms.specs.Numbers.{digitsBehind, top}
 use Rattle.forms.proofs.Laws.{digits-none, digits-step, digits-stop}
 use Rattle.forms.proofs.digits.Statement.{statement}
 use Rattle.forms.proofs.digits.Tie as tie
-use Rattle.forms.proofs.digits.Reads as reads
-use Rattle.forms.proofs.digits.Lts as lts
-use Rattle.forms.proofs.appended.Reads as appended-reads
 
 abbrev Inv-loop : tie.InvT-loop
 Inv-loop word value₀ i₀ value i = (i ≤ length word) × (value < top) × (digitsBehind 0 word ≡ digitsBehind value (drop i word))
@@ -19,31 +16,24 @@ Inv-loop word value₀ i₀ value i = (i ≤ length word) × (value < top) × (d
 abbrev μ-loop : tie.MeasureT-loop
 μ-loop word value₀ i₀ value i = length word - i
 
--- src/lib.rt:90:5
 loop-holds : tie.Need-loop-holds Inv-loop μ-loop
 loop-holds c = (omega arith, omega arith, refl)
 
--- src/lib.rt:91:31
 shared-slice-read-appended : tie.Need-shared-slice-read-appended Inv-loop μ-loop
 shared-slice-read-appended c = omega arith
 
--- src/lib.rt:91:15
 appended-requires : tie.Need-appended-requires Inv-loop μ-loop
 appended-requires c κs = tt
 
--- src/lib.rt:92:27
 enum-known-next : tie.Need-enum-known-next Inv-loop μ-loop
 enum-known-next c = search needs
 
--- src/lib.rt:94:17
 add-i : tie.Need-add-i Inv-loop μ-loop
 add-i c = omega arith
 
--- src/lib.rt:90:5
 loop-less : tie.Need-loop-less Inv-loop μ-loop
 loop-less c = omega arith
 
--- src/lib.rt:90:5
 loop-again : tie.Need-loop-again Inv-loop μ-loop
 loop-again c =
     let l = c .before .before .before .before .before .before in
@@ -51,18 +41,15 @@ loop-again c =
     let step = digits-step (l .loop .value) (l .loop .i) (c .before .next .given .0 .0) (l .before .before .args .word .now) (omega arith) e in
     (omega arith, step .0, l .loop .inv .2 ∙ step .1)
 
--- src/lib.rt:96:33
 enum-told : tie.Need-enum-told Inv-loop μ-loop
 enum-told c = search needs
 
--- src/lib.rt:96:33
 returns : tie.Need-returns Inv-loop μ-loop
 returns c =
     let l = c .before .before .before .before .before in
     let e = sym (c .enum-told .given .1) ∙ c .before .before .appended .ensures in
     sym (l .loop .inv .2 ∙ digits-stop (l .loop .value) (l .loop .i) (l .before .before .args .word .now) (omega arith) e)
 
--- src/lib.rt:85:1
 returns-2 : tie.Need-returns-2 Inv-loop μ-loop
 returns-2 c =
     let l = c .before in

@@ -9,37 +9,28 @@ use Rattle.forms.proofs.Laws.{up-to-place}
 use borrow.Author.Needs.{needs}
 use Rattle.forms.proofs.first_word.Statement.{statement}
 use Rattle.forms.proofs.first_word.Tie as tie
-use Rattle.forms.proofs.first_word.Reads as reads
-use Rattle.forms.proofs.first_word.Lts as lts
-use Rattle.lines.proofs.find.Reads as find-reads
 
--- src/lib.rt:63:11
 find-requires : tie.Need-find-requires
 find-requires c κs = search needs
 
--- src/lib.rt:64:19
 enum-known-end : tie.Need-enum-known-end
 enum-known-end c = search needs
 
--- src/lib.rt:64:27
 slice-aggregate-result : tie.Need-slice-aggregate-result
 slice-aggregate-result c =
     let a = c .before .before .before .before .before .before .args in
     let at = found-at space (c .before .before .end .given .0 .0) (a .line .now) (sym (c .before .before .end .given .1) ∙ c .before .before .before .before .find .ensures) in
     omega (arith, at, length-take (c .before .before .end .given .0 .0) (a .line .now))
 
--- src/lib.rt:65:27
 enum-told : tie.Need-enum-told
 enum-told c = search needs
 
--- src/lib.rt:60:1
 returns : tie.Need-returns
 returns c =
     let a = c .before .before .before .before .before .before .args in
     let at = found-at space (c .before .before .end .given .0 .0) (a .line .now) (sym (c .before .before .end .given .1) ∙ c .before .before .before .before .find .ensures) in
     rw (at .0) (up-to-place space (a .line .now))
 
--- src/lib.rt:60:1
 returns-2 : tie.Need-returns-2
 returns-2 c =
     let a = c .before .before .before .before .args in

@@ -4,18 +4,13 @@ use Rattle.forms.proofs.Laws.{dash-not, dash-one}
 use borrow.Author.Needs.{needs}
 use Rattle.forms.proofs.is_dash.Statement.{statement}
 use Rattle.forms.proofs.is_dash.Tie as tie
-use Rattle.forms.proofs.is_dash.Reads as reads
-use Rattle.forms.proofs.is_dash.Lts as lts
 
--- src/lib.rt:197:9
 shared-slice-read-result : tie.Need-shared-slice-read-result
 shared-slice-read-result c = search needs
 
--- src/lib.rt:193:1
 returns : tie.Need-returns
 returns c = sym (dash-one (c .before .before .args .word .now) (c .before .if1 .taken))
 
--- src/lib.rt:193:1
 returns-2 : tie.Need-returns-2
 returns-2 c = sym (dash-not (c .before .args .word .now) (c .if1 .left))
 

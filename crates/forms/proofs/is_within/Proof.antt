@@ -2,22 +2,16 @@
 use borrow.Author.Needs.{needs}
 use Rattle.forms.proofs.is_within.Statement.{statement}
 use Rattle.forms.proofs.is_within.Tie as tie
-use Rattle.forms.proofs.is_within.Reads as reads
-use Rattle.forms.proofs.is_within.Lts as lts
 
--- src/lib.rt:130:23
 enum-known-number : tie.Need-enum-known-number
 enum-known-number c = search needs
 
--- src/lib.rt:131:29
 enum-told : tie.Need-enum-told
 enum-told c = search needs
 
--- src/lib.rt:126:1
 returns : tie.Need-returns
 returns c = rw (c .before .number .given .1)
 
--- src/lib.rt:126:1
 returns-2 : tie.Need-returns-2
 returns-2 c = search needs
 

@@ -7,9 +7,6 @@ use Rattle.forms.specs.Words.{spacesOf}
 use Rattle.forms.proofs.Laws.{spaces-here, spaces-le, spaces-none}
 use Rattle.forms.proofs.spaces.Statement.{statement}
 use Rattle.forms.proofs.spaces.Tie as tie
-use Rattle.forms.proofs.spaces.Reads as reads
-use Rattle.forms.proofs.spaces.Lts as lts
-use Rattle.forms.proofs.one_if.Reads as one-if-reads
 
 abbrev Inv-loop : tie.InvT-loop
 Inv-loop line count₀ i₀ count i = (i ≤ length line) × (spacesOf line ≡ count + spacesOf (drop i line))
@@ -17,40 +14,32 @@ Inv-loop line count₀ i₀ count i = (i ≤ length line) × (spacesOf line ≡ 
 abbrev μ-loop : tie.MeasureT-loop
 μ-loop line count₀ i₀ count i = length line - i
 
--- src/lib.rt:34:5
 loop-holds : tie.Need-loop-holds Inv-loop μ-loop
 loop-holds c = omega arith
 
--- src/lib.rt:35:25
 shared-slice-read-one-if : tie.Need-shared-slice-read-one-if Inv-loop μ-loop
 shared-slice-read-one-if c = omega arith
 
--- src/lib.rt:35:18
 one-if-requires : tie.Need-one-if-requires Inv-loop μ-loop
 one-if-requires c κs = tt
 
--- src/lib.rt:35:9
 add-count : tie.Need-add-count Inv-loop μ-loop
 add-count c =
     let l = c .before .before .before in
     let line = l .before .before .args .line .now in
     omega (arith, spaces-here (l .loop .i) line (omega arith), spaces-le line)
 
--- src/lib.rt:36:9
 add-i : tie.Need-add-i Inv-loop μ-loop
 add-i c = omega arith
 
--- src/lib.rt:34:5
 loop-less : tie.Need-loop-less Inv-loop μ-loop
 loop-less c = omega arith
 
--- src/lib.rt:34:5
 loop-again : tie.Need-loop-again Inv-loop μ-loop
 loop-again c =
     let l = c .before .before .before in
     omega (arith, spaces-here (l .loop .i) (l .before .before .args .line .now) (omega arith))
 
--- src/lib.rt:29:1
 returns : tie.Need-returns Inv-loop μ-loop
 returns c =
     let l = c .before in

@@ -10,10 +10,6 @@ use Rattle.forms.specs.Words.{space, wordOf}
 use Rattle.forms.proofs.Laws.{word-past}
 use Rattle.forms.proofs.word.Statement.{statement}
 use Rattle.forms.proofs.word.Tie as tie
-use Rattle.forms.proofs.word.Reads as reads
-use Rattle.forms.proofs.word.Lts as lts
-use Rattle.forms.proofs.first_word.Reads as first-word-reads
-use Rattle.lines.proofs.step.Reads as step-reads
 
 abbrev Inv-loop : tie.InvT-loop
 Inv-loop line n from₀ left₀ from left = (from ≤ length line) × (wordOf n line ≡ wordOf left (drop from line))
@@ -21,23 +17,18 @@ Inv-loop line n from₀ left₀ from left = (from ≤ length line) × (wordOf n 
 abbrev μ-loop : tie.MeasureT-loop
 μ-loop line n from₀ left₀ from left = left
 
--- src/lib.rt:53:5
 loop-holds : tie.Need-loop-holds Inv-loop μ-loop
 loop-holds c = (omega arith, refl)
 
--- src/lib.rt:54:29
 sub-step : tie.Need-sub-step Inv-loop μ-loop
 sub-step c = omega arith
 
--- src/lib.rt:54:29
 part-step-start : tie.Need-part-step-start Inv-loop μ-loop
 part-step-start c = search needs
 
--- src/lib.rt:54:29
 part-step-end : tie.Need-part-step-end Inv-loop μ-loop
 part-step-end c = search needs
 
--- src/lib.rt:54:17
 step-requires : tie.Need-step-requires Inv-loop μ-loop
 step-requires c κs = tt
 
@@ -56,42 +47,33 @@ stepped c =
     in
     (first, omega (arith, first))
 
--- src/lib.rt:54:9
 add-from : tie.Need-add-from Inv-loop μ-loop
 add-from c = omega (arith, stepped c, c .before .before .before .before .before .good)
 
--- src/lib.rt:55:9
 sub-left : tie.Need-sub-left Inv-loop μ-loop
 sub-left c = omega arith
 
--- src/lib.rt:53:5
 loop-less : tie.Need-loop-less Inv-loop μ-loop
 loop-less c = omega arith
 
--- src/lib.rt:53:5
 loop-again : tie.Need-loop-again Inv-loop μ-loop
 loop-again c =
     let l = c .before .before .before in
     let a = l .before .before .args in
     (omega (arith, stepped c), l .loop .inv .1 ∙ rw (sym (stepped c .0)) at (word-past (l .loop .left) (l .loop .from) (a .line .now) (c .before .before .loop-test .taken)))
 
--- src/lib.rt:57:16
 sub-first-word : tie.Need-sub-first-word Inv-loop μ-loop
 sub-first-word c = omega arith
 
--- src/lib.rt:57:16
 part-first-word-start : tie.Need-part-first-word-start Inv-loop μ-loop
 part-first-word-start c = search needs
 
--- src/lib.rt:57:16
 part-first-word-end : tie.Need-part-first-word-end Inv-loop μ-loop
 part-first-word-end c = search needs
 
--- src/lib.rt:57:5
 first-word-requires : tie.Need-first-word-requires Inv-loop μ-loop
 first-word-requires c κs = tt
 
--- src/lib.rt:48:1
 returns : tie.Need-returns Inv-loop μ-loop
 unfolding wordOf
 returns c =

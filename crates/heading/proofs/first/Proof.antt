@@ -14,14 +14,6 @@ use Rattle.search_machine.proofs.Places.{part-take}
 use borrow.Author.Needs.{needs}
 use Rattle.heading.proofs.first.Statement.{statement}
 use Rattle.heading.proofs.first.Tie as tie
-use Rattle.heading.proofs.first.Reads as reads
-use Rattle.heading.proofs.first.Lts as lts
-use Rattle.forms.proofs.first_line.Reads as first-line-reads
-use Rattle.heading.proofs.look.Reads as look-reads
-use Rattle.heading.proofs.open.Reads as open-reads
-use Rattle.heading.proofs.wanting.Reads as wanting-reads
-use Rattle.heading.proofs.over.Reads as over-reads
-use Rattle.printing.proofs.refusal.Reads as refusal-reads
 
 -- a whole line is there
 whole : (c : tie.After-length) → let a = c .before .before .before .before .before .before .before .before .before .args in Whole (c .length .given .0 .0) ≡ lookedAt (part (a .s .from) (a .s .to) (a .input .now))

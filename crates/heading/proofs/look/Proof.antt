@@ -10,9 +10,6 @@ use Rattle.printing.specs.Texts.{newline}
 use borrow.Author.Needs.{needs}
 use Rattle.heading.proofs.look.Statement.{statement}
 use Rattle.heading.proofs.look.Tie as tie
-use Rattle.heading.proofs.look.Reads as reads
-use Rattle.heading.proofs.look.Lts as lts
-use Rattle.lines.proofs.find.Reads as find-reads
 
 find-requires : tie.Need-find-requires
 find-requires c κs = search needs

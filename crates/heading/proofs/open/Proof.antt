@@ -4,11 +4,6 @@ use Rattle.heading.proofs.Heads.{opened-refused, opened-served}
 use borrow.Author.Needs.{needs}
 use Rattle.heading.proofs.open.Statement.{statement}
 use Rattle.heading.proofs.open.Tie as tie
-use Rattle.heading.proofs.open.Reads as reads
-use Rattle.heading.proofs.open.Lts as lts
-use Rattle.searcher.proofs.Searcher.open.Reads as open-reads
-use Rattle.heading.proofs.over.Reads as over-reads
-use Rattle.printing.proofs.refusal.Reads as refusal-reads
 
 open-requires : tie.Need-open-requires
 open-requires c κs = search needs

@@ -3,6 +3,7 @@ use Prim.Native.Nat.{_+_, _≤_, _<_}
 use mathlib.Core.Path.{_≡_, sym, _∙_}
 use native.Mathlib.Omega.{arith}
 use lib.ListN.{length, take, length-take}
+use lib.Seq.{take-length}
 use Rattle.definition.specs.Text.{part}
 use Rattle.session.proofs.Parts.{part-length}
 use Rattle.search_machine.specs.declared.Seen.the-variants.{Whole, Unfinished, TooLong}
@@ -12,15 +13,6 @@ use Rattle.heading.proofs.Heads.{inside, looked-few, once-begun, once-o
 use borrow.Author.Needs.{needs}
 use Rattle.heading.proofs.second.Statement.{statement}
 use Rattle.heading.proofs.second.Tie as tie
-use Rattle.heading.proofs.second.Reads as reads
-use Rattle.heading.proofs.second.Lts as lts
-use Rattle.line_buffer.proofs.take_in.Reads as take-in-reads
-use Rattle.literal.proofs.choose.Reads as choose-reads
-use Rattle.heading.proofs.begun.Reads as begun-reads
-use Rattle.heading.proofs.look.Reads as look-reads
-use Rattle.heading.proofs.wanting.Reads as wanting-reads
-use Rattle.heading.proofs.over.Reads as over-reads
-use Rattle.printing.proofs.refusal.Reads as refusal-reads
 
 -- a whole line is there
 whole : (c : tie.After-length) → let a = c .before .before .before .before .before .before .before .before .before .args in Whole (c .length .given .0 .0) ≡ lookedAt (part (a .s .from) (a .s .to) (a .input .now))
@@ -50,29 +42,29 @@ enum-known-length c = search needs
 add-end : tie.Need-add-end
 add-end c = omega (arith, placed (c .before), c .before .before .before .before .before .before .before .before .before .before .pre .1 .placed, c .before .before .before .before .before .before .before .before .before .before .good)
 
-sub-take-in : tie.Need-sub-take-in
-sub-take-in c = search needs
+sub-copy : tie.Need-sub-copy
+sub-copy c = search needs
 
-part-take-in-start : tie.Need-part-take-in-start
-part-take-in-start c = search needs
+part-copy-start : tie.Need-part-copy-start
+part-copy-start c = search needs
 
-part-take-in-end : tie.Need-part-take-in-end
-part-take-in-end c = omega (arith, placed (c .before .before .before), c .before .before .before .before .before .before .before .before .before .before .before .before .pre .1 .placed)
+part-copy-end : tie.Need-part-copy-end
+part-copy-end c = omega (arith, placed (c .before .before), c .before .before .before .before .before .before .before .before .before .before .before .pre .1 .placed)
 
-take-in-requires : tie.Need-take-in-requires
-take-in-requires c κs =
+copy-requires : tie.Need-copy-requires
+copy-requires c κs =
     let a = c .before .before .before .before .before .before .before .before .before .before .before .before .before .args in
     let n = c .before .before .before .before .length .given .0 .0 in
-    let room : 0 + length (part (a .s .from) (a .s .from + n) (a .input .now)) ≤ length (a .literal .now) = omega (arith, placed (c .before .before .before .before), c .before .before .before .before .before .before .before .before .before .before .before .before .before .pre .1 .placed, c .before .before .before .before .before .before .before .before .before .before .before .before .before .pre .1 .literal-room, part-length (a .s .from) (a .s .from + n) (a .input .now) (omega arith) (omega (arith, placed (c .before .before .before .before), c .before .before .before .before .before .before .before .before .before .before .before .before .before .pre .1 .placed))) in
+    let room : length (part (a .s .from) (a .s .from + n) (a .input .now)) ≤ length (a .literal .now) = omega (arith, placed (c .before .before .before .before), c .before .before .before .before .before .before .before .before .before .before .before .before .before .pre .1 .placed, c .before .before .before .before .before .before .before .before .before .before .before .before .before .pre .1 .literal-room, part-length (a .s .from) (a .s .from + n) (a .input .now) (omega arith) (omega (arith, placed (c .before .before .before .before), c .before .before .before .before .before .before .before .before .before .before .before .before .before .pre .1 .placed))) in
     room
 
 slice-reshare-prefix-choose : tie.Need-slice-reshare-prefix-choose
-slice-reshare-prefix-choose c = omega (arith, placed (c .before .before .before .before .before .before .before), c .before .before .take-in .kept .0, c .before .before .before .before .before .before .before .before .before .before .before .before .before .before .before .before .pre .1 .literal-room)
+slice-reshare-prefix-choose c = omega (arith, placed (c .before .before .before .before .before .before .before), c .before .before .copy .kept .1 .0, c .before .before .before .before .before .before .before .before .before .before .before .before .before .before .before .before .pre .1 .literal-room)
 
 slice-aggregate-choose : tie.Need-slice-aggregate-choose
 slice-aggregate-choose c =
     let n = c .before .before .before .before .before .before .before .before .length .given .0 .0 in
-    let size : n ≡ length (take n (c .before .before .before .take-in .last .0)) = omega (arith, placed (c .before .before .before .before .before .before .before .before), c .before .before .before .take-in .kept .0, c .before .before .before .before .before .before .before .before .before .before .before .before .before .before .before .before .before .pre .1 .literal-room, length-take n (c .before .before .before .take-in .last .0)) in
+    let size : n ≡ length (take n (c .before .before .before .copy .last .1 .0)) = omega (arith, placed (c .before .before .before .before .before .before .before .before), c .before .before .before .copy .kept .1 .0, c .before .before .before .before .before .before .before .before .before .before .before .before .before .before .before .before .before .pre .1 .literal-room, length-take n (c .before .before .before .copy .last .1 .0)) in
     size
 
 choose-requires : tie.Need-choose-requires
@@ -108,8 +100,10 @@ same-length-2 c = search needs
 returns : tie.Need-returns
 returns c =
     let a = c .before .before .before .before .before .before .before .before .before .before .before .before .before .before .before .before .before .before .before .args in
+    let n = c .before .before .before .before .before .before .before .before .before .before .length .given .0 .0 in
+    let copied = rw (take-length (part (a .s .from) (a .s .from + n) (a .input .now))) at (c .before .before .before .before .before .copy .ensures .1) in
     rw (c .begun .ensures)
-    (once-begun (a .s) (a .window .now) (a .literal .now) (a .input .now) (a .out .now) (c .before .before .before .before .before .before .before .before .before .before .before .before .before .before .before .before .before .before .before .pre .1) (c .before .before .before .before .before .before .before .before .before .before .length .given .0 .0) (c .before .choose .result) (c .before .before .before .before .before .before .before .before .before .before .before .before .before .before .before .before .before .before .before .pre .0) (whole (c .before .before .before .before .before .before .before .before .before .before)) _ (c .before .before .before .before .before .take-in .ensures))
+    (once-begun (a .s) (a .window .now) (a .literal .now) (a .input .now) (a .out .now) (c .before .before .before .before .before .before .before .before .before .before .before .before .before .before .before .before .before .before .before .pre .1) n (c .before .choose .result) (c .before .before .before .before .before .before .before .before .before .before .before .before .before .before .before .before .before .before .before .pre .0) (whole (c .before .before .before .before .before .before .before .before .before .before)) _ copied)
 
 same-length-3 : tie.Need-same-length-3
 same-length-3 c = search needs
@@ -146,10 +140,10 @@ second-spec =
     look-requires
     enum-known-length
     add-end
-    sub-take-in
-    part-take-in-start
-    part-take-in-end
-    take-in-requires
+    sub-copy
+    part-copy-start
+    part-copy-end
+    copy-requires
     slice-reshare-prefix-choose
     slice-aggregate-choose
     choose-requires

@@ -7,11 +7,9 @@ use Rattle.held.proofs.is_sound.Reads as reads
 use Rattle.held.proofs.is_sound.Lts as lts
 use Rattle.held.proofs.agree.Reads as agree-reads
 
--- src/lib.rt:123:5
 agree-requires : tie.Need-agree-requires
 agree-requires c κs = search needs
 
--- src/lib.rt:120:1
 returns : tie.Need-returns
 unfolding sound
 returns c = rw (c .before .agree .ensures)

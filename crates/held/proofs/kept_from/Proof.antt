@@ -15,41 +15,34 @@ use Rattle.held.proofs.kept_from.Lts as lts
 use Rattle.held.proofs.kept_lines.Reads as kept-lines-reads
 use Rattle.lines.proofs.preceding.Reads as preceding-reads
 
--- src/lib.rt:159:30
 sub-preceding : tie.Need-sub-preceding
 sub-preceding c = search needs
 
--- src/lib.rt:159:30
 part-preceding-start : tie.Need-part-preceding-start
 part-preceding-start c = search needs
 
--- src/lib.rt:159:30
 part-preceding-end : tie.Need-part-preceding-end
 part-preceding-end c = search needs
 
--- src/lib.rt:159:66
 kept-lines-requires : tie.Need-kept-lines-requires
 kept-lines-requires c κs = search needs
 
--- src/lib.rt:159:13
 preceding-requires : tie.Need-preceding-requires
 preceding-requires c κs = search needs
 
--- src/lib.rt:159:5
 add-result : tie.Need-add-result
 add-result c =
-    let s = c .before .before .before .before .before in
+    let s = c .before .before .before .before .before .before in
     let a = s .args in
-    let size = part-length (a .s .floor) (a .s .next) (a .window .now) (s .pre .0) (s .pre .1) in
-    let inside = last-le (c .before .kept-lines .result) (a .s .settings .terminator) (part (a .s .floor) (a .s .next) (a .window .now)) in
+    let size = part-length (a .s .places .floor) (a .s .places .next) (a .window .now) (s .pre .0) (s .pre .1) in
+    let inside = last-le (c .before .kept-lines .result) (a .s .walk .settings .terminator) (part (a .s .places .floor) (a .s .places .next) (a .window .now)) in
     omega (arith, c .preceding .ensures, inside, size, s .pre, s .good)
 
--- src/lib.rt:152:1
 returns : tie.Need-returns
 returns c =
-    let s = c .before .before .before .before .before in
+    let s = c .before .before .before .before .before .before in
     let a = s .args in
-    let back : c .preceding .result ≡ lastStart (keptLines (a .s .settings)) (a .s .settings .terminator) (part (a .s .floor) (a .s .next) (a .window .now)) = rw (c .before .kept-lines .ensures) at (c .preceding .ensures) in
+    let back : c .preceding .result ≡ lastStart (keptLines (a .s .walk .settings)) (a .s .walk .settings .terminator) (part (a .s .places .floor) (a .s .places .next) (a .window .now)) = rw (c .before .kept-lines .ensures) at (c .preceding .ensures) in
     rw back (kept-back (a .s) (a .window .now) (s .pre .0) (s .pre .1))
 
 pub kept-from-spec : {M : Type 1} → statement M

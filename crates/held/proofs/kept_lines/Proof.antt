@@ -6,22 +6,18 @@ use Rattle.held.proofs.kept_lines.Statement.{statement}
 use Rattle.held.proofs.kept_lines.Tie as tie
 use Rattle.held.proofs.kept_lines.Reads as reads
 use Rattle.held.proofs.kept_lines.Lts as lts
-use Rattle.held.proofs.has_context.Reads as has-context-reads
+use Rattle.agreeing.proofs.has_context.Reads as has-context-reads
 
--- src/lib.rt:148:8
 has-context-requires : tie.Need-has-context-requires
 has-context-requires c κs = search needs
 
--- src/lib.rt:148:25
 add-result : tie.Need-add-result
 add-result c = search needs
 
--- src/lib.rt:144:1
 returns : tie.Need-returns
 unfolding keptLines
 returns c = rw (sym (c .before .before .has-context .ensures) ∙ c .before .if1 .taken)
 
--- src/lib.rt:144:1
 returns-2 : tie.Need-returns-2
 unfolding keptLines
 returns-2 c = rw (sym (c .before .has-context .ensures) ∙ c .if1 .left)

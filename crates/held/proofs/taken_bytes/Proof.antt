@@ -6,15 +6,12 @@ use Rattle.held.proofs.taken_bytes.Tie as tie
 use Rattle.held.proofs.taken_bytes.Reads as reads
 use Rattle.held.proofs.taken_bytes.Lts as lts
 
--- src/lib.rt:131:17
 sub-result : tie.Need-sub-result
 sub-result c = search needs
 
--- src/lib.rt:131:5
 add-result : tie.Need-add-result
 add-result c = search needs
 
--- src/lib.rt:127:1
 returns : tie.Need-returns
 unfolding takenBytes
 returns c = search needs

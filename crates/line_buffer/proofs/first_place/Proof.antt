@@ -4,29 +4,21 @@ use Rattle.lines.proofs.Laws.{found-at, found-nothing}
 use borrow.Author.Needs.{needs}
 use Rattle.line_buffer.proofs.first_place.Statement.{statement}
 use Rattle.line_buffer.proofs.first_place.Tie as tie
-use Rattle.line_buffer.proofs.first_place.Reads as reads
-use Rattle.line_buffer.proofs.first_place.Lts as lts
-use Rattle.lines.proofs.find.Reads as find-reads
 
--- src/lib.rt:68:11
 find-requires : tie.Need-find-requires
 find-requires c κs = search needs
 
--- src/lib.rt:69:19
 enum-known-i : tie.Need-enum-known-i
 enum-known-i c = search needs
 
--- src/lib.rt:70:27
 enum-told : tie.Need-enum-told
 enum-told c = search needs
 
--- src/lib.rt:65:1
 returns : tie.Need-returns
 returns c =
     let a = c .before .before .before .before .before .args in
     found-at (a .byte) (c .before .i .given .0 .0) (a .piece .now) (sym (c .before .i .given .1) ∙ c .before .before .before .find .ensures) .0
 
--- src/lib.rt:65:1
 returns-2 : tie.Need-returns-2
 returns-2 c =
     let a = c .before .before .before .before .args in

@@ -10,9 +10,6 @@ use Rattle.definition.proofs.Uncut.{length-replaced}
 use Rattle.line_buffer.proofs.Laws.{getD-replaced, over, over-next}
 use Rattle.line_buffer.proofs.replace_bytes.Statement.{statement}
 use Rattle.line_buffer.proofs.replace_bytes.Tie as tie
-use Rattle.line_buffer.proofs.replace_bytes.Reads as reads
-use Rattle.line_buffer.proofs.replace_bytes.Lts as lts
-use Rattle.line_buffer.proofs.replacement.Reads as replacement-reads
 
 abbrev Inv-loop : tie.InvT-loop
 Inv-loop tail₀ piece byte by i₀ tail i = (i ≤ length piece) × (length tail ≡ length tail₀) × (tail ≡ over (replaced byte by piece) tail₀ i)
@@ -20,31 +17,24 @@ Inv-loop tail₀ piece byte by i₀ tail i = (i ≤ length piece) × (length tai
 abbrev μ-loop : tie.MeasureT-loop
 μ-loop tail₀ piece byte by i₀ tail i = length piece - i
 
--- src/lib.rt:59:5
 loop-holds : tie.Need-loop-holds Inv-loop μ-loop
 loop-holds c = (omega arith, refl, refl)
 
--- src/lib.rt:60:31
 shared-slice-read-replacement : tie.Need-shared-slice-read-replacement Inv-loop μ-loop
 shared-slice-read-replacement c = omega arith
 
--- src/lib.rt:60:19
 replacement-requires : tie.Need-replacement-requires Inv-loop μ-loop
 replacement-requires c κs = search needs
 
--- src/lib.rt:60:9
 slice-write-tail : tie.Need-slice-write-tail Inv-loop μ-loop
 slice-write-tail c = omega arith
 
--- src/lib.rt:61:9
 add-i : tie.Need-add-i Inv-loop μ-loop
 add-i c = omega arith
 
--- src/lib.rt:59:5
 loop-less : tie.Need-loop-less Inv-loop μ-loop
 loop-less c = omega arith
 
--- src/lib.rt:59:5
 loop-again : tie.Need-loop-again Inv-loop μ-loop
 loop-again c =
     let l = c .before .before .before in
@@ -58,11 +48,9 @@ loop-again c =
       rw (byte, l .loop .inv .2) (over-next new (a .tail .now) i (omega arith) (omega arith)),
     )
 
--- src/lib.rt:54:1
 same-length : tie.Need-same-length Inv-loop μ-loop
 same-length c = c .before .loop .inv .1
 
--- src/lib.rt:54:1
 returns : tie.Need-returns Inv-loop μ-loop
 returns c =
     let l = c .before in

@@ -2,14 +2,10 @@
 use borrow.Author.Tests.{eq-eqb, ne-eqb}
 use Rattle.line_buffer.proofs.replacement.Statement.{statement}
 use Rattle.line_buffer.proofs.replacement.Tie as tie
-use Rattle.line_buffer.proofs.replacement.Reads as reads
-use Rattle.line_buffer.proofs.replacement.Lts as lts
 
--- src/lib.rt:65:1
 returns : tie.Need-returns
 returns c = rw (eq-eqb (c .before .args .x) (c .before .args .byte) (c .if1 .taken))
 
--- src/lib.rt:65:1
 returns-2 : tie.Need-returns-2
 returns-2 c = rw (ne-eqb (c .before .args .x) (c .before .args .byte) (c .if1 .left))
 

@@ -8,8 +8,6 @@ use Rattle.line_buffer.specs.Buffer.{rolled}
 use Rattle.line_buffer.proofs.Laws.{over, over-next, over-read, roll-none}
 use Rattle.line_buffer.proofs.roll.Statement.{statement}
 use Rattle.line_buffer.proofs.roll.Tie as tie
-use Rattle.line_buffer.proofs.roll.Reads as reads
-use Rattle.line_buffer.proofs.roll.Lts as lts
 
 abbrev Inv-loop : tie.InvT-loop
 Inv-loop window₀ from to i₀ window i = (from ≤ i) × (i ≤ to) × (length window ≡ length window₀) × (window ≡ over (drop from window₀) window₀ (i - from))
@@ -17,7 +15,6 @@ Inv-loop window₀ from to i₀ window i = (from ≤ i) × (i ≤ to) × (length
 abbrev μ-loop : tie.MeasureT-loop
 μ-loop window₀ from to i₀ window i = to - i
 
--- src/lib.rt:18:9
 returns : tie.Need-returns Inv-loop μ-loop
 unfolding rolled
 returns c =
@@ -25,34 +22,27 @@ returns c =
     let zero : a .from ≡ 0 = c .if1 .taken in
     sym (rw zero (roll-none (a .to) (a .window .now)))
 
--- src/lib.rt:21:5
 loop-holds : tie.Need-loop-holds Inv-loop μ-loop
 loop-holds c =
     let a = c .before .args in
     let zero : a .from - a .from ≡ 0 = omega arith in
     (omega arith, omega (arith, c .before .pre), refl, rw zero)
 
--- src/lib.rt:22:28
 slice-read-window : tie.Need-slice-read-window Inv-loop μ-loop
 slice-read-window c = omega arith
 
--- src/lib.rt:22:16
 sub-window : tie.Need-sub-window Inv-loop μ-loop
 sub-window c = omega arith
 
--- src/lib.rt:22:9
 slice-write-window : tie.Need-slice-write-window Inv-loop μ-loop
 slice-write-window c = omega arith
 
--- src/lib.rt:23:9
 add-i : tie.Need-add-i Inv-loop μ-loop
 add-i c = omega arith
 
--- src/lib.rt:21:5
 loop-less : tie.Need-loop-less Inv-loop μ-loop
 loop-less c = omega arith
 
--- src/lib.rt:21:5
 loop-again : tie.Need-loop-again Inv-loop μ-loop
 loop-again c =
     let l = c .before .before in
@@ -71,11 +61,9 @@ loop-again c =
       rw (next, read, l .loop .inv .3) (over-next (drop (a .from) w) w j (omega arith) (omega arith)),
     )
 
--- src/lib.rt:13:1
 same-length : tie.Need-same-length Inv-loop μ-loop
 same-length c = c .before .loop .inv .2
 
--- src/lib.rt:13:1
 returns-2 : tie.Need-returns-2 Inv-loop μ-loop
 unfolding rolled
 returns-2 c =

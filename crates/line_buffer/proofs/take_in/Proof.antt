@@ -2,102 +2,78 @@
 use mathlib.Core.Path.{refl}
 use native.Mathlib.Omega.{arith}
 use lib.ListN.{length}
+use lib.Seq.{take-length}
 use Rattle.definition.specs.Text.{replaced}
 use Rattle.definition.proofs.Uncut.{length-replaced}
 use Rattle.line_buffer.proofs.Laws.{tail-put}
 use borrow.Author.Needs.{needs}
 use Rattle.line_buffer.proofs.take_in.Statement.{statement}
 use Rattle.line_buffer.proofs.take_in.Tie as tie
-use Rattle.line_buffer.proofs.take_in.Reads as reads
-use Rattle.line_buffer.proofs.take_in.Lts as lts
-use Rattle.line_buffer.proofs.copy.Reads as copy-reads
-use Rattle.line_buffer.proofs.replace_bytes.Reads as replace-bytes-reads
 
--- src/lib.rt:35:32
 enum-told : tie.Need-enum-told
 enum-told c = search needs
 
--- src/lib.rt:35:32
 sub-copy : tie.Need-sub-copy
 sub-copy c = search needs
 
--- src/lib.rt:35:32
 part-copy-start : tie.Need-part-copy-start
 part-copy-start c = search needs
 
--- src/lib.rt:35:32
 part-copy-end : tie.Need-part-copy-end
 part-copy-end c = search needs
 
--- src/lib.rt:35:27
 copy-requires : tie.Need-copy-requires
 copy-requires c κs = search needs
 
--- src/lib.rt:36:33
 enum-told-2 : tie.Need-enum-told-2
 enum-told-2 c = search needs
 
--- src/lib.rt:36:33
 sub-copy-2 : tie.Need-sub-copy-2
 sub-copy-2 c = search needs
 
--- src/lib.rt:36:33
 part-copy-start-2 : tie.Need-part-copy-start-2
 part-copy-start-2 c = search needs
 
--- src/lib.rt:36:33
 part-copy-end-2 : tie.Need-part-copy-end-2
 part-copy-end-2 c = search needs
 
--- src/lib.rt:36:28
 copy-requires-2 : tie.Need-copy-requires-2
 copy-requires-2 c κs = search needs
 
--- src/lib.rt:37:25
 enum-known-binary : tie.Need-enum-known-binary
 enum-known-binary c = search needs
 
--- src/lib.rt:37:48
 sub-replace-bytes : tie.Need-sub-replace-bytes
 sub-replace-bytes c = search needs
 
--- src/lib.rt:37:48
 part-replace-bytes-start : tie.Need-part-replace-bytes-start
 part-replace-bytes-start c = search needs
 
--- src/lib.rt:37:48
 part-replace-bytes-end : tie.Need-part-replace-bytes-end
 part-replace-bytes-end c = search needs
 
--- src/lib.rt:37:34
 replace-bytes-requires : tie.Need-replace-bytes-requires
 replace-bytes-requires c κs = search needs
 
--- src/lib.rt:30:1
 same-length : tie.Need-same-length
 same-length c = search needs
 
--- src/lib.rt:30:1
 returns : tie.Need-returns
 returns c =
     let a = c .before .before .before .before .before .before .before .before .args in
-    rw (c .before .before .before .before .enum-told .given .1, c .before .before .copy .ensures) (tail-put (a .end) (length (a .piece .now)) (a .piece .now) (a .window .now) refl (omega arith))
+    rw (c .before .before .before .before .enum-told .given .1, c .before .before .copy .ensures .1, take-length (a .piece .now)) (tail-put (a .end) (length (a .piece .now)) (a .piece .now) (a .window .now) refl (omega arith))
 
--- src/lib.rt:30:1
 same-length-2 : tie.Need-same-length-2
 same-length-2 c = search needs
 
--- src/lib.rt:30:1
 returns-2 : tie.Need-returns-2
 returns-2 c =
     let a = c .before .before .before .before .before .before .before .before .args in
-    rw (c .before .before .before .before .enum-told2 .given .1, c .before .before .copy2 .ensures) (tail-put (a .end) (length (a .piece .now)) (a .piece .now) (a .window .now) refl (omega arith))
+    rw (c .before .before .before .before .enum-told2 .given .1, c .before .before .copy2 .ensures .1, take-length (a .piece .now)) (tail-put (a .end) (length (a .piece .now)) (a .piece .now) (a .window .now) refl (omega arith))
 
--- src/lib.rt:30:1
 same-length-3 : tie.Need-same-length-3
 same-length-3 c = search needs
 
--- src/lib.rt:30:1
 returns-3 : tie.Need-returns-3
 returns-3 c =
     let a = c .before .before .before .before .before .before .before .before .before .args in

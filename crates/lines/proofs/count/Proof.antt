@@ -8,9 +8,6 @@ use Rattle.definition.specs.Text.{firstLength, lines}
 use Rattle.lines.proofs.Laws.{count-step, step-at}
 use Rattle.lines.proofs.count.Statement.{statement}
 use Rattle.lines.proofs.count.Tie as tie
-use Rattle.lines.proofs.count.Reads as reads
-use Rattle.lines.proofs.count.Lts as lts
-use Rattle.lines.proofs.step.Reads as step-reads
 
 abbrev Inv-loop : tie.InvT-loop
 Inv-loop s terminator n₀ i₀ n i = (i ≤ length s) × (n ≤ i) × (length (lines terminator s) ≡ n + length (lines terminator (drop i s)))
@@ -18,23 +15,18 @@ Inv-loop s terminator n₀ i₀ n i = (i ≤ length s) × (n ≤ i) × (length (
 abbrev μ-loop : tie.MeasureT-loop
 μ-loop s terminator n₀ i₀ n i = length s - i
 
--- src/lib.rt:74:5
 loop-holds : tie.Need-loop-holds Inv-loop μ-loop
 loop-holds c = omega arith
 
--- src/lib.rt:75:19
 sub-step : tie.Need-sub-step Inv-loop μ-loop
 sub-step c = omega arith
 
--- src/lib.rt:75:19
 part-step-start : tie.Need-part-step-start Inv-loop μ-loop
 part-step-start c = search needs
 
--- src/lib.rt:75:19
 part-step-end : tie.Need-part-step-end Inv-loop μ-loop
 part-step-end c = search needs
 
--- src/lib.rt:75:14
 step-requires : tie.Need-step-requires Inv-loop μ-loop
 step-requires c κs = search needs
 
@@ -49,19 +41,15 @@ stepped c =
     let a = l .before .before .args in
     step-at (a .terminator) (l .loop .i) (c .step .result) (a .s .now) (omega arith) (c .step .ensures)
 
--- src/lib.rt:75:9
 add-i : tie.Need-add-i Inv-loop μ-loop
 add-i c = omega (arith, stepped c, c .before .before .before .before .before .good)
 
--- src/lib.rt:76:9
 add-n : tie.Need-add-n Inv-loop μ-loop
 add-n c = omega (arith, stepped c, c .before .before .before .before .before .good)
 
--- src/lib.rt:74:5
 loop-less : tie.Need-loop-less Inv-loop μ-loop
 loop-less c = omega (arith, stepped c)
 
--- src/lib.rt:74:5
 loop-again : tie.Need-loop-again Inv-loop μ-loop
 loop-again c =
     let l = c .before .before .before in
@@ -69,7 +57,6 @@ loop-again c =
     let more = rw (sym (stepped c .0)) at (count-step (a .terminator) (l .loop .i) (a .s .now) (omega arith)) in
     omega (arith, stepped c, more)
 
--- src/lib.rt:69:1
 returns : tie.Need-returns Inv-loop μ-loop
 unfolding lines
 returns c =

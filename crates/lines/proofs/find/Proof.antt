@@ -9,8 +9,6 @@ use Rattle.lines.specs.Lines.{found}
 use Rattle.lines.proofs.Laws.{first-here, first-later}
 use Rattle.lines.proofs.find.Statement.{statement}
 use Rattle.lines.proofs.find.Tie as tie
-use Rattle.lines.proofs.find.Reads as reads
-use Rattle.lines.proofs.find.Lts as lts
 
 abbrev Inv-loop : tie.InvT-loop
 Inv-loop s byte i₀ i = (i ≤ length s) × (firstPlace byte s ≡ i + firstPlace byte (drop i s))
@@ -18,15 +16,12 @@ Inv-loop s byte i₀ i = (i ≤ length s) × (firstPlace byte s ≡ i + firstPla
 abbrev μ-loop : tie.MeasureT-loop
 μ-loop s byte i₀ i = length s - i
 
--- src/lib.rt:19:5
 loop-holds : tie.Need-loop-holds Inv-loop μ-loop
 loop-holds c = omega arith
 
--- src/lib.rt:20:12
 shared-slice-read-if1 : tie.Need-shared-slice-read-if1 Inv-loop μ-loop
 shared-slice-read-if1 c = omega arith
 
--- src/lib.rt:21:13
 returns : tie.Need-returns Inv-loop μ-loop
 unfolding found
 returns c =
@@ -36,22 +31,18 @@ returns c =
     let e : firstPlace (a .byte) (a .s .now) ≡ l .loop .i = omega (arith, here) in
     rw (e, lt-ltb (l .loop .i) (length (a .s .now)) (omega arith))
 
--- src/lib.rt:23:9
 add-i : tie.Need-add-i Inv-loop μ-loop
 add-i c = omega arith
 
--- src/lib.rt:19:5
 loop-less : tie.Need-loop-less Inv-loop μ-loop
 loop-less c = omega arith
 
--- src/lib.rt:19:5
 loop-again : tie.Need-loop-again Inv-loop μ-loop
 loop-again c =
     let l = c .before .before .before in
     let a = l .before .args in
     omega (arith, first-later (a .byte) (l .loop .i) (a .s .now) (omega arith) (c .if1 .left))
 
--- src/lib.rt:15:1
 returns-2 : tie.Need-returns-2 Inv-loop μ-loop
 unfolding found
 returns-2 c =

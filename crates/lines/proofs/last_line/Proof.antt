@@ -7,8 +7,6 @@ use Rattle.definition.specs.Text.{firstPlace}
 use Rattle.lines.proofs.Laws.{ended-before, first-later, last-here, last-whole}
 use Rattle.lines.proofs.last_line.Statement.{statement}
 use Rattle.lines.proofs.last_line.Tie as tie
-use Rattle.lines.proofs.last_line.Reads as reads
-use Rattle.lines.proofs.last_line.Lts as lts
 
 abbrev Inv-loop : tie.InvT-loop
 Inv-loop s terminator i₀ i = (i ≤ length s) × (length s ≤ i - 1 + firstPlace terminator (drop (i - 1) s) + 1)
@@ -16,23 +14,18 @@ Inv-loop s terminator i₀ i = (i ≤ length s) × (length s ≤ i - 1 + firstPl
 abbrev μ-loop : tie.MeasureT-loop
 μ-loop s terminator i₀ i = i
 
--- src/lib.rt:59:5
 loop-holds : tie.Need-loop-holds Inv-loop μ-loop
 loop-holds c = omega arith
 
--- src/lib.rt:60:9
 sub-i : tie.Need-sub-i Inv-loop μ-loop
 sub-i c = omega arith
 
--- src/lib.rt:61:14
 sub-if1 : tie.Need-sub-if1 Inv-loop μ-loop
 sub-if1 c = omega arith
 
--- src/lib.rt:61:12
 shared-slice-read-if1 : tie.Need-shared-slice-read-if1 Inv-loop μ-loop
 shared-slice-read-if1 c = omega arith
 
--- src/lib.rt:62:13
 returns : tie.Need-returns Inv-loop μ-loop
 returns c =
     let l = c .before .before .before in
@@ -40,11 +33,9 @@ returns c =
     let p = l .loop .i - 1 in
     sym (last-here (a .terminator) p (a .s .now) (omega arith) (l .loop .inv .1) (ended-before (a .terminator) p (a .s .now) (omega arith) (omega arith) (c .if1 .taken)))
 
--- src/lib.rt:59:5
 loop-less : tie.Need-loop-less Inv-loop μ-loop
 loop-less c = omega arith
 
--- src/lib.rt:59:5
 loop-again : tie.Need-loop-again Inv-loop μ-loop
 loop-again c =
     let l = c .before .before .before in
@@ -54,7 +45,6 @@ loop-again c =
     let later = rw e at (first-later (a .terminator) (p - 1) (a .s .now) (omega arith) (c .if1 .left)) in
     (omega arith, omega (arith, l .loop .inv .1, later))
 
--- src/lib.rt:55:1
 returns-2 : tie.Need-returns-2 Inv-loop μ-loop
 returns-2 c =
     let l = c .before in

@@ -9,9 +9,6 @@ use Rattle.lines.specs.Lines.{lastStart}
 use Rattle.lines.proofs.Laws.{last-back, last-empty, last-le, last-none}
 use Rattle.lines.proofs.preceding.Statement.{statement}
 use Rattle.lines.proofs.preceding.Tie as tie
-use Rattle.lines.proofs.preceding.Reads as reads
-use Rattle.lines.proofs.preceding.Lts as lts
-use Rattle.lines.proofs.last_line.Reads as last-line-reads
 
 abbrev Inv-loop : tie.InvT-loop
 Inv-loop s terminator n start₀ left₀ start left = (start ≤ length s) × (lastStart n terminator s ≡ lastStart left terminator (take start s))
@@ -19,11 +16,9 @@ Inv-loop s terminator n start₀ left₀ start left = (start ≤ length s) × (l
 abbrev μ-loop : tie.MeasureT-loop
 μ-loop s terminator n start₀ left₀ start left = left
 
--- src/lib.rt:44:5
 loop-holds : tie.Need-loop-holds Inv-loop μ-loop
 loop-holds c = (omega arith, rw (take-length (c .before .args .s .now)))
 
--- src/lib.rt:46:13
 returns : tie.Need-returns Inv-loop μ-loop
 returns c =
     let l = c .before .before in
@@ -31,23 +26,18 @@ returns c =
     let zero : l .loop .start ≡ 0 = c .if1 .taken in
     sym (rw zero at (l .loop .inv .1) ∙ last-empty (l .loop .left) (a .terminator))
 
--- src/lib.rt:48:27
 slice-aggregate-last-line : tie.Need-slice-aggregate-last-line Inv-loop μ-loop
 slice-aggregate-last-line c = sym (length-take-le (c .before .before .before .loop .start) (c .before .before .before .before .before .args .s .now) (omega arith))
 
--- src/lib.rt:48:9
 last-line-requires : tie.Need-last-line-requires Inv-loop μ-loop
 last-line-requires c κs = search needs
 
--- src/lib.rt:49:9
 sub-left : tie.Need-sub-left Inv-loop μ-loop
 sub-left c = omega arith
 
--- src/lib.rt:44:5
 loop-less : tie.Need-loop-less Inv-loop μ-loop
 loop-less c = omega arith
 
--- src/lib.rt:44:5
 loop-again : tie.Need-loop-again Inv-loop μ-loop
 loop-again c =
     let l = c .before .before .before .before in
@@ -58,7 +48,6 @@ loop-again c =
       l .loop .inv .1 ∙ rw (sym e) at back,
     )
 
--- src/lib.rt:39:1
 returns-2 : tie.Need-returns-2 Inv-loop μ-loop
 returns-2 c =
     let l = c .before in

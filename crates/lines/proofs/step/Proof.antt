@@ -5,37 +5,28 @@ use Rattle.lines.proofs.Laws.{found-at, found-nothing}
 use borrow.Author.Needs.{needs}
 use Rattle.lines.proofs.step.Statement.{statement}
 use Rattle.lines.proofs.step.Tie as tie
-use Rattle.lines.proofs.step.Reads as reads
-use Rattle.lines.proofs.step.Lts as lts
-use Rattle.lines.proofs.find.Reads as find-reads
 
--- src/lib.rt:32:11
 find-requires : tie.Need-find-requires
 find-requires c κs = search needs
 
--- src/lib.rt:33:19
 enum-known-i : tie.Need-enum-known-i
 enum-known-i c = search needs
 
--- src/lib.rt:33:25
 add-result : tie.Need-add-result
 add-result c =
     let a = c .before .before .before .before .before .args in
     let at = found-at (a .terminator) (c .before .i .given .0 .0) (a .s .now) (sym (c .before .i .given .1) ∙ c .before .before .before .find .ensures) in
     omega (arith, at, c .before .before .before .before .before .good)
 
--- src/lib.rt:34:27
 enum-told : tie.Need-enum-told
 enum-told c = search needs
 
--- src/lib.rt:29:1
 returns : tie.Need-returns
 returns c =
     let a = c .before .before .before .before .before .args in
     let at = found-at (a .terminator) (c .before .i .given .0 .0) (a .s .now) (sym (c .before .i .given .1) ∙ c .before .before .before .find .ensures) in
     omega (arith, at)
 
--- src/lib.rt:29:1
 returns-2 : tie.Need-returns-2
 returns-2 c =
     let a = c .before .before .before .before .args in

@@ -3,7 +3,7 @@ use Prim.Native.Nat.{_≤_, _-_}
 use mathlib.Core.Path.{_≡_, refl}
 use native.Mathlib.Numerals.{add-one}
 use native.Mathlib.Omega.{arith}
-use Rattle.literal.specs.Places.{anyHit}
+use Rattle.literal.specs.Sweeps.{anyHit}
 use Rattle.literal.proofs.any_hit.Statement.{statement}
 use Rattle.literal.proofs.any_hit.Tie as tie
 

@@ -2,7 +2,7 @@
 use mathlib.Core.Path.{sym}
 use borrow.Author.Needs.{needs}
 use native.Mathlib.Omega.{arith}
-use Rattle.literal.proofs.Places.{seen-start, told-none, told-whole}
+use Rattle.literal.proofs.Sweeps.{swept-start, swept-none, swept-whole}
 use Rattle.literal.proofs.Stands.{stands-empty}
 use Rattle.literal.proofs.contains_by.Statement.{statement}
 use Rattle.literal.proofs.contains_by.Tie as tie
@@ -11,7 +11,7 @@ returns : tie.Need-returns
 returns c = sym (stands-empty _ _ (c .if1 .taken))
 
 returns-2 : tie.Need-returns-2
-returns-2 c = told-whole (told-none (seen-start {to = 0} (omega arith)) (omega arith)) (omega arith)
+returns-2 c = swept-whole (swept-none (swept-start {to = 0} (omega arith)) (omega arith)) (omega arith)
 
 sub-least : tie.Need-sub-least
 sub-least c = search needs
@@ -35,7 +35,7 @@ search-requires : tie.Need-search-requires
 search-requires c κs = search needs
 
 returns-3 : tie.Need-returns-3
-returns-3 c = told-whole (c .search .ensures) (omega arith)
+returns-3 c = swept-whole (c .search .ensures) (omega arith)
 
 pub contains-by-spec : {M : Type 1} → statement M
 contains-by-spec =

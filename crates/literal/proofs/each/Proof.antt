@@ -2,19 +2,19 @@
 use Prim.Native.Nat.{_-_}
 use mathlib.Core.Path.{sym, _∙_}
 use native.Mathlib.Omega.{arith}
-use Rattle.literal.proofs.Places.{Seen, miss, no-start, seen-start, seen-one, told-found, told-none}
+use Rattle.literal.proofs.Sweeps.{SweptTo, miss, no-start, swept-start, swept-one, swept-found, swept-none}
 use Rattle.literal.proofs.Stands.{stands-at}
 use Rattle.literal.proofs.each.Statement.{statement}
 use Rattle.literal.proofs.each.Tie as tie
 
 abbrev Inv-loop : tie.InvT-loop
-Inv-loop line literal first second from to i₀ i = Seen literal line from i to
+Inv-loop line literal first second from to i₀ i = SweptTo literal line from i to
 
 abbrev μ-loop : tie.MeasureT-loop
 μ-loop line literal first second from to i₀ i = to - i
 
 loop-holds : tie.Need-loop-holds Inv-loop μ-loop
-loop-holds c = seen-start (omega arith)
+loop-holds c = swept-start (omega arith)
 
 add-i : tie.Need-add-i Inv-loop μ-loop
 add-i c = omega arith
@@ -29,7 +29,7 @@ returns : tie.Need-returns Inv-loop μ-loop
 returns c =
     let l = c .before .before .before .before .before in
     let a = l .before .before .before .args in
-    told-found (stands-at (a .literal .now) (a .line .now) (l .loop .i) (sym (c .before .starts-at .ensures) ∙ c .if2 .taken))
+    swept-found (stands-at (a .literal .now) (a .line .now) (l .loop .i) (sym (c .before .starts-at .ensures) ∙ c .if2 .taken))
 
 loop-less : tie.Need-loop-less Inv-loop μ-loop
 loop-less c = omega arith
@@ -39,7 +39,7 @@ loop-again c =
     let l = c .before .before .before .before .before in
     let a = l .before .before .before .args in
     let none = no-start (a .literal .now) (a .line .now) (l .loop .i) (sym (c .before .starts-at .ensures) ∙ c .if2 .left) in
-    seen-one (l .loop .inv) (omega arith) none
+    swept-one (l .loop .inv) (omega arith) none
 
 loop-less-2 : tie.Need-loop-less-2 Inv-loop μ-loop
 loop-less-2 c = omega arith
@@ -48,10 +48,10 @@ loop-again-2 : tie.Need-loop-again-2 Inv-loop μ-loop
 loop-again-2 c =
     let l = c .before .before .before in
     let none = miss (l .loop .i) 1 (l .before .before .before .pre .0) (c .before .any-hit .ensures) (c .if1 .left) in
-    seen-one (l .loop .inv) (omega arith) none
+    swept-one (l .loop .inv) (omega arith) none
 
 returns-2 : tie.Need-returns-2 Inv-loop μ-loop
-returns-2 c = told-none (c .before .loop .inv) (c .loop-test .left)
+returns-2 c = swept-none (c .before .loop .inv) (c .loop-test .left)
 
 pub each-spec : {M : Type 1} → statement M
 each-spec =

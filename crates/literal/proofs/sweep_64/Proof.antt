@@ -1,18 +1,18 @@
 -- A block with a hit is looked at in smaller blocks; the others are passed.
 use Prim.Native.Nat.{_-_}
 use native.Mathlib.Omega.{arith}
-use Rattle.literal.proofs.Places.{Seen, miss, seen-start, seen-block, told-found, told-none}
+use Rattle.literal.proofs.Sweeps.{SweptTo, miss, swept-start, swept-block, swept-found, swept-none}
 use Rattle.literal.proofs.sweep_64.Statement.{statement}
 use Rattle.literal.proofs.sweep_64.Tie as tie
 
 abbrev Inv-loop : tie.InvT-loop
-Inv-loop line literal first second to i₀ i = Seen literal line 0 i to
+Inv-loop line literal first second to i₀ i = SweptTo literal line 0 i to
 
 abbrev μ-loop : tie.MeasureT-loop
 μ-loop line literal first second to i₀ i = to - i
 
 loop-holds : tie.Need-loop-holds Inv-loop μ-loop
-loop-holds c = seen-start (omega arith)
+loop-holds c = swept-start (omega arith)
 
 sub-least : tie.Need-sub-least Inv-loop μ-loop
 sub-least c = omega arith
@@ -30,7 +30,7 @@ sweep-16-requires : tie.Need-sweep-16-requires Inv-loop μ-loop
 sweep-16-requires c κs = omega arith
 
 returns : tie.Need-returns Inv-loop μ-loop
-returns c = told-found (c .before .sweep-16 .ensures .found (c .if2 .taken))
+returns c = swept-found (c .before .sweep-16 .ensures .found (c .if2 .taken))
 
 loop-less : tie.Need-loop-less Inv-loop μ-loop
 loop-less c = omega arith
@@ -38,7 +38,7 @@ loop-less c = omega arith
 loop-again : tie.Need-loop-again Inv-loop μ-loop
 loop-again c =
     let l = c .before .before .before .before .before in
-    seen-block 64 (l .before .loop .inv) (l .before .before .before .before .pre .1) (c .before .before .before .before .least .ensures) (c .before .sweep-16 .ensures .none (c .if2 .left))
+    swept-block 64 (l .before .loop .inv) (l .before .before .before .before .pre .1) (c .before .before .before .before .least .ensures) (c .before .sweep-16 .ensures .none (c .if2 .left))
 
 loop-less-2 : tie.Need-loop-less-2 Inv-loop μ-loop
 loop-less-2 c = omega arith
@@ -46,10 +46,10 @@ loop-less-2 c = omega arith
 loop-again-2 : tie.Need-loop-again-2 Inv-loop μ-loop
 loop-again-2 c =
     let s = c .before .before .before .before .before .before .before in
-    seen-block 64 (c .before .before .before .before .loop .inv) (s .pre .1) (c .before .before .least .ensures) (miss _ 64 (s .pre .0) (c .before .any-hit .ensures) (c .if1 .left))
+    swept-block 64 (c .before .before .before .before .loop .inv) (s .pre .1) (c .before .before .least .ensures) (miss _ 64 (s .pre .0) (c .before .any-hit .ensures) (c .if1 .left))
 
 returns-2 : tie.Need-returns-2 Inv-loop μ-loop
-returns-2 c = told-none (c .before .loop .inv) (c .loop-test .left)
+returns-2 c = swept-none (c .before .loop .inv) (c .loop-test .left)
 
 pub sweep-64-spec : {M : Type 1} → statement M
 sweep-64-spec =

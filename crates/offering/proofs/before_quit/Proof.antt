@@ -6,31 +6,24 @@ use Rattle.offering.proofs.before_quit.Reads as reads
 use Rattle.offering.proofs.before_quit.Lts as lts
 use Rattle.line_buffer.proofs.first_place.Reads as first-place-reads
 
--- src/lib.rt:123:27
 enum-told : tie.Need-enum-told
 enum-told c = search needs
 
--- src/lib.rt:124:22
 enum-known-binary : tie.Need-enum-known-binary
 enum-known-binary c = search needs
 
--- src/lib.rt:124:31
 first-place-requires : tie.Need-first-place-requires
 first-place-requires c κs = search needs
 
--- src/lib.rt:125:31
 enum-told-2 : tie.Need-enum-told-2
 enum-told-2 c = search needs
 
--- src/lib.rt:119:1
 returns : tie.Need-returns
 returns c = rw (c .enum-told .given .1)
 
--- src/lib.rt:119:1
 returns-2 : tie.Need-returns-2
 returns-2 c = rw (c .before .before .binary .given .1) (c .first-place .ensures)
 
--- src/lib.rt:119:1
 returns-3 : tie.Need-returns-3
 returns-3 c = rw (c .enum-told2 .given .1)
 

@@ -12,36 +12,29 @@ use Rattle.offering.proofs.converted_place.Reads as reads
 use Rattle.offering.proofs.converted_place.Lts as lts
 use Rattle.lines.proofs.find.Reads as find-reads
 
--- src/lib.rt:216:9
 returns : tie.Need-returns
 returns c = rw (eq-eqb (c .before .before .args .byte) (c .before .before .args .terminator) (c .if1 .taken))
 
--- src/lib.rt:218:11
 find-requires : tie.Need-find-requires
 find-requires c κs = search needs
 
--- src/lib.rt:219:19
 enum-known-i : tie.Need-enum-known-i
 enum-known-i c = search needs
 
--- src/lib.rt:219:35
 add-t10 : tie.Need-add-t10
 add-t10 c =
     let s = c .before .before .before .before .before .before in
     omega (arith, found-at (s .args .byte) (c .before .i .given .0 .0) (s .args .bytes .now) (sym (c .before .i .given .1) ∙ c .before .before .before .find .ensures), s .pre, s .good)
 
--- src/lib.rt:220:27
 enum-told : tie.Need-enum-told
 enum-told c = search needs
 
--- src/lib.rt:211:1
 returns-2 : tie.Need-returns-2
 returns-2 c =
     let a = c .before .before .before .before .before .before .args in
     let at = found-at (a .byte) (c .before .i .given .0 .0) (a .bytes .now) (sym (c .before .i .given .1) ∙ c .before .before .before .find .ensures) in
     rw (ne-eqb (a .byte) (a .terminator) (c .before .before .before .before .if1 .left), sym (at .0), lt-ltb (c .before .i .given .0 .0) (length (a .bytes .now)) (at .1))
 
--- src/lib.rt:211:1
 returns-3 : tie.Need-returns-3
 returns-3 c =
     let a = c .before .before .before .before .before .args in

@@ -4,12 +4,11 @@ use mathlib.Core.Bool.{true}
 use native.Mathlib.Omega.{arith}
 use lib.ListN.{length}
 use borrow.Author.Tests.{not-false, not-true}
-use Rattle.session.specs.declared.Offering.the-variants.{OfferRefused, Idle}
-use Rattle.session.specs.Calls.{idle}
+use Rattle.core.proofs.Laws.{before-allowed}
+use Rattle.session.specs.Calls.{Idle, OfferRefused, idle}
 use Rattle.session.specs.Sound.{sound}
 use Rattle.session.proofs.Cases.{idling, unsound}
 use Rattle.session.proofs.Keeps.{sound-agrees, sound-window}
-use Rattle.session.proofs.Agree.{before-allowed}
 use Rattle.offering.specs.Plan.{idleAt}
 use Rattle.offering.proofs.Laws.{planned-is}
 use borrow.Author.Needs.{needs}
@@ -22,39 +21,33 @@ use Rattle.held.proofs.kept_from.Reads as kept-from-reads
 use Rattle.offering.proofs.decide_from.Reads as decide-from-reads
 use Rattle.offering.proofs.is_idle.Reads as is-idle-reads
 
--- src/lib.rt:64:9
 is-sound-requires : tie.Need-is-sound-requires
 is-sound-requires c κs = search needs
 
--- src/lib.rt:65:9
 returns : tie.Need-returns
 returns c =
     let a = c .before .before .before .before .args in
     planned-is (a .s) (a .window .now) (a .piece .now) (OfferRefused 6) (unsound (sym (c .before .is-sound .ensures) ∙ not-true _ (c .if1 .taken)))
 
--- src/lib.rt:67:8
 is-idle-requires : tie.Need-is-idle-requires
 is-idle-requires c κs = search needs
 
 sounds : (c : tie.Else1) → let a = c .before .before .before .before .args in sound (a .s) (length (a .window .now)) ≡ true
 sounds c = sym (c .before .is-sound .ensures) ∙ not-false _ (c .if1 .left)
 
--- src/lib.rt:68:9
 returns-2 : tie.Need-returns-2
 unfolding idle idleAt
 returns-2 c =
     let a = c .before .before .before .before .before .before .args in
     planned-is (a .s) (a .window .now) (a .piece .now) Idle (idling (sounds (c .before .before)) (sym (c .before .is-idle .ensures) ∙ c .if2 .taken))
 
--- src/lib.rt:70:35
 kept-from-requires : tie.Need-kept-from-requires
 kept-from-requires c κs =
     let a = c .before .before .before .before .before .before .args in
     let agree = sound-agrees (a .s) (length (a .window .now)) (sounds (c .before .before)) in
     let same = sound-window (a .s) (length (a .window .now)) (sounds (c .before .before)) in
-    (agree .floor-next, omega (arith, agree, same), before-allowed (a .s .settings) (agree .set))
+    (agree .places .floor-next, omega (arith, agree, same), before-allowed (a .s .walk .settings) (agree .walk .set))
 
--- src/lib.rt:70:5
 decide-from-requires : tie.Need-decide-from-requires
 unfolding idle idleAt
 decide-from-requires c κs =
@@ -68,7 +61,6 @@ decide-from-requires c κs =
       sym (c .before .before .is-idle .ensures) ∙ c .before .if2 .left,
     )
 
--- src/lib.rt:61:1
 returns-3 : tie.Need-returns-3
 returns-3 c = search needs
 

@@ -14,56 +14,48 @@ use Rattle.offering.proofs.decide_from.Reads as reads
 use Rattle.offering.proofs.decide_from.Lts as lts
 use Rattle.held.proofs.taken_bytes.Reads as taken-bytes-reads
 use Rattle.offering.proofs.is_stuck.Reads as is-stuck-reads
-use Rattle.offering.proofs.least.Reads as least-reads
+use Rattle.numbers.proofs.least.Reads as least-reads
 use Rattle.offering.proofs.reaches.Reads as reaches-reads
 
-from-le : (c : tie.Start) → c .args .from ≤ c .args .s .end
+from-le : (c : tie.Start) → c .args .from ≤ c .args .s .places .end
 unfolding keptFrom
 from-le c = omega (arith, c .pre .0 .from-is, c .pre .0 .agree)
 
--- src/lib.rt:90:28
 sub-free : tie.Need-sub-free
 sub-free c = omega (arith, from-le (c .before .before .before .before))
 
--- src/lib.rt:90:16
 sub-free-2 : tie.Need-sub-free-2
 sub-free-2 c = search needs
 
--- src/lib.rt:91:41
 taken-bytes-requires : tie.Need-taken-bytes-requires
-taken-bytes-requires c κs = let a = c .before .before .before .before .before .pre .0 .agree in (a .next-end, a .size)
+taken-bytes-requires c κs = let a = c .before .before .before .before .before .pre .0 .agree in (a .places .next-end, a .walk .size)
 
--- src/lib.rt:91:16
 sub-left : tie.Need-sub-left
 unfolding takenBytes
 sub-left c = omega (arith, c .taken-bytes .ensures, c .before .before .before .before .before .before .pre .0 .agree)
 
--- src/lib.rt:92:40
 least-requires : tie.Need-least-requires
 least-requires c κs = search needs
 
--- src/lib.rt:92:9
 reaches-requires : tie.Need-reaches-requires
 reaches-requires c κs = search needs
 
 reach-as : (c : tie.After-reaches)
     → let a = c .before .before .before .before .before .before .before .before .args in
     c .reaches .result
-    ≡ reached (a .s .settings .binary) (a .piece .now)
-    (min (a .s .window - (a .s .end - a .from)) (maxInput - takenBytes (a .s)))
+    ≡ reached (a .s .walk .settings .binary) (a .piece .now)
+    (min (a .s .places .window - (a .s .places .end - a .from)) (maxInput - takenBytes (a .s)))
 reach-as c = rw (c .before .least .ensures, c .before .before .taken-bytes .ensures) at (c .reaches .ensures)
 
 left-as : (c : tie.After-taken-bytes) → c .taken-bytes .result ≡ takenBytes (c .before .before .before .before .before .before .args .s)
 left-as c = c .taken-bytes .ensures
 
--- src/lib.rt:94:9
 returns : tie.Need-returns
 returns c =
     let s = c .before .before .before .before .before .before .before .before .before .before .before in
     let a = s .args in
     path-front (a .s) (a .window .now) (a .piece .now) (a .from) (s .pre .0) (s .pre .1) (rw (reach-as (c .before .before .before)) at (c .if1 .taken))
 
--- src/lib.rt:97:9
 returns-2 : tie.Need-returns-2
 returns-2 c =
     let s = c .before .before .before .before .before .before .before .before .before .before .before .before in
@@ -71,14 +63,12 @@ returns-2 c =
     path-size (a .s) (a .window .now) (a .piece .now) (a .from) (s .pre .0) (s .pre .1) (rw (reach-as (c .before .before .before .before)) at (c .before .if1 .left))
     (rw (left-as (c .before .before .before .before .before .before)) at (c .if2 .taken))
 
--- src/lib.rt:99:8
 is-stuck-requires : tie.Need-is-stuck-requires
 is-stuck-requires c κs =
     let s = c .before .before .before .before .before .before .before .before .before .before .before .before in
     let r = s .pre .0 in
-    (r .agree .next-end, omega (arith, r .agree, r .same))
+    (r .agree .places .next-end, omega (arith, r .agree, r .same))
 
--- src/lib.rt:100:9
 returns-3 : tie.Need-returns-3
 returns-3 c =
     let s = c .before .before .before .before .before .before .before .before .before .before .before .before .before .before in
@@ -86,7 +76,6 @@ returns-3 c =
     path-stuck (a .s) (a .window .now) (a .piece .now) (a .from) (s .pre .0) (s .pre .1) (rw (reach-as (c .before .before .before .before .before .before)) at (c .before .before .before .if1 .left))
     (rw (left-as (c .before .before .before .before .before .before .before .before)) at (c .before .before .if2 .left)) (sym (c .before .is-stuck .ensures) ∙ c .if3 .taken)
 
--- src/lib.rt:83:1
 returns-4 : tie.Need-returns-4
 returns-4 c =
     let s = c .before .before .before .before .before .before .before .before .before .before .before .before .before .before in

@@ -6,23 +6,18 @@ use Rattle.offering.proofs.first_replaced.Reads as reads
 use Rattle.offering.proofs.first_replaced.Lts as lts
 use Rattle.offering.proofs.replaced_in.Reads as replaced-in-reads
 
--- src/lib.rt:195:19
 enum-known-place : tie.Need-enum-known-place
 enum-known-place c = search needs
 
--- src/lib.rt:196:27
 enum-told : tie.Need-enum-told
 enum-told c = search needs
 
--- src/lib.rt:196:27
 replaced-in-requires : tie.Need-replaced-in-requires
 replaced-in-requires c κs = search needs
 
--- src/lib.rt:190:1
 returns : tie.Need-returns
 returns c = rw (c .before .place .given .1)
 
--- src/lib.rt:190:1
 returns-2 : tie.Need-returns-2
 returns-2 c = rw (c .before .enum-told .given .1) (c .replaced-in .ensures)
 

@@ -5,18 +5,15 @@ use Rattle.offering.proofs.is_idle.Statement.{statement}
 use Rattle.offering.proofs.is_idle.Tie as tie
 use Rattle.offering.proofs.is_idle.Reads as reads
 use Rattle.offering.proofs.is_idle.Lts as lts
-use Rattle.held.proofs.is_on.Reads as is-on-reads
+use Rattle.ahead.proofs.is_on.Reads as is-on-reads
 use Rattle.held.proofs.is_open.Reads as is-open-reads
 
--- src/lib.rt:79:21
 is-open-requires : tie.Need-is-open-requires
 is-open-requires c κs = search needs
 
--- src/lib.rt:79:45
 is-on-requires : tie.Need-is-on-requires
 is-on-requires c κs = search needs
 
--- src/lib.rt:74:1
 returns : tie.Need-returns
 unfolding idleAt
 returns c = rw (c .is-on .ensures, c .before .is-open .ensures)

@@ -10,33 +10,26 @@ use Rattle.offering.proofs.offer.Lts as lts
 use Rattle.offering.proofs.decide.Reads as decide-reads
 use Rattle.offering.proofs.store.Reads as store-reads
 
--- src/lib.rt:38:9
 decide-requires : tie.Need-decide-requires
 decide-requires c κs = search needs
 
--- src/lib.rt:40:22
 enum-known-plan : tie.Need-enum-known-plan
 enum-known-plan c = search needs
 
--- src/lib.rt:45:26
 enum-told : tie.Need-enum-told
 enum-told c = search needs
 
--- src/lib.rt:50:21
 enum-known-plan-2 : tie.Need-enum-known-plan-2
 enum-known-plan-2 c = search needs
 
--- src/lib.rt:51:17
 store-requires : tie.Need-store-requires
 store-requires c κs =
     let a = c .before .before .before .before .before .before .before .before .args in
     storing-of (a .s) (a .window .now) (a .piece .now) _ _ _ (sym (c .before .before .plan2 .given .1) ∙ c .before .before .before .before .decide .ensures)
 
--- src/lib.rt:34:1
 same-length : tie.Need-same-length
 same-length c = search needs
 
--- src/lib.rt:34:1
 returns : tie.Need-returns
 unfolding offered offeredWindow
 returns c =
@@ -44,11 +37,9 @@ returns c =
     let is = refused-is (a .s) (a .window .now) (a .piece .now) (c .before .plan .given .0 .0) (sym (c .before .plan .given .1) ∙ c .before .before .before .decide .ensures) in
     (rw is, rw is)
 
--- src/lib.rt:34:1
 same-length-2 : tie.Need-same-length-2
 same-length-2 c = search needs
 
--- src/lib.rt:34:1
 returns-2 : tie.Need-returns-2
 unfolding offered offeredWindow
 returns-2 c =
@@ -56,11 +47,9 @@ returns-2 c =
     let is = nothing-is (a .s) (a .window .now) (a .piece .now) (sym (c .enum-told .given .1) ∙ c .before .before .decide .ensures) in
     (rw is, rw is)
 
--- src/lib.rt:34:1
 same-length-3 : tie.Need-same-length-3
 same-length-3 c = search needs
 
--- src/lib.rt:34:1
 returns-3 : tie.Need-returns-3
 unfolding offered offeredWindow
 returns-3 c =

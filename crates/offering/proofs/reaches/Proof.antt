@@ -9,29 +9,23 @@ use Rattle.offering.proofs.reaches.Tie as tie
 use Rattle.offering.proofs.reaches.Reads as reads
 use Rattle.offering.proofs.reaches.Lts as lts
 use Rattle.offering.proofs.before_quit.Reads as before-quit-reads
-use Rattle.offering.proofs.least.Reads as least-reads
+use Rattle.numbers.proofs.least.Reads as least-reads
 
--- src/lib.rt:110:35
 add-least : tie.Need-add-least
 add-least c = search needs
 
--- src/lib.rt:110:9
 least-requires : tie.Need-least-requires
 least-requires c κs = search needs
 
--- src/lib.rt:111:38
 slice-aggregate-before-quit : tie.Need-slice-aggregate-before-quit
 slice-aggregate-before-quit c = sym (length-take-le (c .before .least .result) (c .before .before .before .args .piece .now) (omega (arith, c .before .least .ensures)))
 
--- src/lib.rt:111:9
 before-quit-requires : tie.Need-before-quit-requires
 before-quit-requires c κs = search needs
 
--- src/lib.rt:112:9
 least-requires-2 : tie.Need-least-requires-2
 least-requires-2 c κs = search needs
 
--- src/lib.rt:106:1
 returns : tie.Need-returns
 returns c =
     let a = c .before .before .before .before .before .args in

@@ -6,31 +6,24 @@ use Rattle.offering.proofs.replaced_in.Reads as reads
 use Rattle.offering.proofs.replaced_in.Lts as lts
 use Rattle.offering.proofs.converted_place.Reads as converted-place-reads
 
--- src/lib.rt:205:27
 enum-told : tie.Need-enum-told
 enum-told c = search needs
 
--- src/lib.rt:206:28
 enum-told-2 : tie.Need-enum-told-2
 enum-told-2 c = search needs
 
--- src/lib.rt:207:25
 enum-known-binary : tie.Need-enum-known-binary
 enum-known-binary c = search needs
 
--- src/lib.rt:207:34
 converted-place-requires : tie.Need-converted-place-requires
 converted-place-requires c κs = search needs
 
--- src/lib.rt:200:1
 returns : tie.Need-returns
 returns c = search needs
 
--- src/lib.rt:200:1
 returns-2 : tie.Need-returns-2
 returns-2 c = search needs
 
--- src/lib.rt:200:1
 returns-3 : tie.Need-returns-3
 returns-3 c = rw (c .before .before .binary .given .1) (c .converted-place .ensures)
 

@@ -22,12 +22,12 @@ use Rattle.offering.proofs.first_replaced.Reads as first-replaced-reads
 use Rattle.offering.proofs.input_after.Reads as input-after-reads
 
 record Facts (c : tie.Start) : Type 0 where
-  back : c .args .from ≤ c .args .s .next
-  ordered : c .args .from ≤ c .args .s .end
-  inside : c .args .s .end ≤ length (c .args .window .now)
-  fits : c .args .s .end - c .args .from + c .args .n ≤ c .args .s .window
-  most : c .args .s .window ≤ maxWindow
-  size : c .args .s .bytes + (c .args .s .end - c .args .s .next) ≤ maxInput
+  back : c .args .from ≤ c .args .s .places .next
+  ordered : c .args .from ≤ c .args .s .places .end
+  inside : c .args .s .places .end ≤ length (c .args .window .now)
+  fits : c .args .s .places .end - c .args .from + c .args .n ≤ c .args .s .places .window
+  most : c .args .s .places .window ≤ maxWindow
+  size : c .args .s .walk .bytes + (c .args .s .places .end - c .args .s .places .next) ≤ maxInput
 
 facts : (c : tie.Start) → Facts c
 unfolding keptFrom
@@ -39,65 +39,53 @@ facts c =
       ordered = omega (arith, r .from-is, a);
       inside = omega (arith, r .same, a);
       fits = c .pre .fits;
-      most = a .most;
-      size = a .size;
+      most = a .places .most;
+      size = a .walk .size;
     }
 
--- src/lib.rt:160:9
 slice-aggregate-part : tie.Need-slice-aggregate-part
-slice-aggregate-part c = sym (length-take-le (c .before .before .before .before .args .n) (c .before .before .before .before .args .piece .now) (c .before .before .before .before .pre .some))
+slice-aggregate-part c = sym (length-take-le (c .before .before .before .before .before .before .args .n) (c .before .before .before .before .before .before .args .piece .now) (c .before .before .before .before .before .before .pre .some))
 
--- src/lib.rt:161:5
 roll-requires : tie.Need-roll-requires
-roll-requires c κs = (facts (c .before .before .before .before .before) .ordered, facts (c .before .before .before .before .before) .inside)
+roll-requires c κs = (facts (c .before .before .before .before .before .before .before) .ordered, facts (c .before .before .before .before .before .before .before) .inside)
 
--- src/lib.rt:162:34
 sub-take-in : tie.Need-sub-take-in
-sub-take-in c = facts (c .before .before .before .before .before .before .before .before .before) .ordered
+sub-take-in c = facts (c .before .before .before .before .before .before .before .before .before .before .before) .ordered
 
--- src/lib.rt:162:5
 take-in-requires : tie.Need-take-in-requires
 take-in-requires c κs =
-    let s = c .before .before .before .before .before .before .before .before .before in
+    let s = c .before .before .before .before .before .before .before .before .before .before .before in
     let a = s .args in
     let f = facts s in
-    let rolled-length = ap length (c .before .before .before .roll .ensures) ∙ length-rolled (a .from) (a .s .end) (a .window .now) (f .ordered) (f .inside) in
+    let rolled-length = ap length (c .before .before .before .roll .ensures) ∙ length-rolled (a .from) (a .s .places .end) (a .window .now) (f .ordered) (f .inside) in
     omega (arith, f, rolled-length, length-take-le (a .n) (a .piece .now) (s .pre .some), s .pre .sounded .same)
 
--- src/lib.rt:163:17
 taken-bytes-requires : tie.Need-taken-bytes-requires
-taken-bytes-requires c κs = (c .before .before .before .before .before .before .before .before .before .before .before .before .pre .sounded .agree .next-end, facts (c .before .before .before .before .before .before .before .before .before .before .before .before) .size)
+taken-bytes-requires c κs = (c .before .before .before .before .before .before .before .before .before .before .before .before .before .before .pre .sounded .agree .places .next-end, facts (c .before .before .before .before .before .before .before .before .before .before .before .before .before .before) .size)
 
--- src/lib.rt:164:9
 first-replaced-requires : tie.Need-first-replaced-requires
 unfolding takenBytes
-first-replaced-requires c κs = omega (arith, c .taken-bytes .ensures, facts (c .before .before .before .before .before .before .before .before .before .before .before .before .before) .size)
+first-replaced-requires c κs = omega (arith, c .taken-bytes .ensures, facts (c .before .before .before .before .before .before .before .before .before .before .before .before .before .before .before) .size)
 
--- src/lib.rt:165:9
 input-after-requires : tie.Need-input-after-requires
 input-after-requires c κs = search needs
 
--- src/lib.rt:170:15
-sub-t22 : tie.Need-sub-t22
-sub-t22 c = facts (c .before .before .before .before .before .before .before .before .before .before .before .before .before .before .before .before) .back
+sub-t24 : tie.Need-sub-t24
+sub-t24 c = facts (c .before .before .before .before .before .before .before .before .before .before .before .before .before .before .before .before .before .before) .back
 
--- src/lib.rt:171:14
-sub-t23 : tie.Need-sub-t23
-sub-t23 c = facts (c .before .before .before .before .before .before .before .before .before .before .before .before .before .before .before .before) .ordered
+sub-t25 : tie.Need-sub-t25
+sub-t25 c = facts (c .before .before .before .before .before .before .before .before .before .before .before .before .before .before .before .before .before .before) .ordered
 
--- src/lib.rt:171:14
-add-t24 : tie.Need-add-t24
-add-t24 c = omega (arith, facts (c .before .before .before .before .before .before .before .before .before .before .before .before .before .before .before .before))
+add-t26 : tie.Need-add-t26
+add-t26 c = omega (arith, facts (c .before .before .before .before .before .before .before .before .before .before .before .before .before .before .before .before .before .before))
 
--- src/lib.rt:150:1
 same-length : tie.Need-same-length
 same-length c = search needs
 
--- src/lib.rt:150:1
 returns : tie.Need-returns
 unfolding stored
 returns c =
-    let s = c .before .before .before .before .before .before .before .before .before .before .before .before .before .before .before .before in
+    let s = c .before .before .before .before .before .before .before .before .before .before .before .before .before .before .before .before .before .before in
     let a = s .args in (
       rw (c .before .input-after .ensures, c .before .before .first-replaced .ensures, c .before .before .before .taken-bytes .ensures, s .pre .sounded .from-is),
       c .before .before .before .before .before .before .take-in .ensures ∙ rw (c .before .before .before .before .before .before .before .before .before .before .roll .ensures) (stored-bytes (a .s) (a .window .now) (a .piece .now) (a .from) (a .n) (s .pre)),
@@ -114,8 +102,8 @@ store-spec =
     taken-bytes-requires
     first-replaced-requires
     input-after-requires
-    sub-t22
-    sub-t23
-    add-t24
+    sub-t24
+    sub-t25
+    add-t26
     same-length
     returns)

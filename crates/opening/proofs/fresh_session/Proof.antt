@@ -1,16 +1,20 @@
--- All at the start; a limit of 0 stops at once.
+-- A walk and places at the start.
 use borrow.Author.Needs.{needs}
 use Rattle.opening.proofs.fresh_session.Statement.{statement}
 use Rattle.opening.proofs.fresh_session.Tie as tie
 use Rattle.opening.proofs.fresh_session.Reads as reads
 use Rattle.opening.proofs.fresh_session.Lts as lts
-use Rattle.answering.proofs.going_next.Reads as going-next-reads
+use Rattle.stepping.proofs.start.Reads as start-reads
+use Rattle.opening.proofs.places_start.Reads as places-start-reads
 
-going-next-requires : tie.Need-going-next-requires
-going-next-requires c κs = search needs
+start-requires : tie.Need-start-requires
+start-requires c κs = search needs
+
+places-start-requires : tie.Need-places-start-requires
+places-start-requires c κs = search needs
 
 returns : tie.Need-returns
-returns c = rw (c .going-next .ensures)
+returns c = rw (c .places-start .ensures, c .before .start .ensures)
 
 pub fresh-session-spec : {M : Type 1} → statement M
-fresh-session-spec = tie.close (tie.spec going-next-requires returns)
+fresh-session-spec = tie.close (tie.spec start-requires places-start-requires returns)

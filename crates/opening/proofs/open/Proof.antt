@@ -7,7 +7,7 @@ use Rattle.opening.proofs.open.Statement.{statement}
 use Rattle.opening.proofs.open.Tie as tie
 use Rattle.opening.proofs.open.Reads as reads
 use Rattle.opening.proofs.open.Lts as lts
-use Rattle.held.proofs.are_allowed.Reads as are-allowed-reads
+use Rattle.agreeing.proofs.are_allowed.Reads as are-allowed-reads
 use Rattle.opening.proofs.fresh_session.Reads as fresh-session-reads
 use Rattle.opening.proofs.refused.Reads as refused-reads
 

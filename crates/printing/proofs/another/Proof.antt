@@ -6,10 +6,6 @@ use Rattle.printing.proofs.Laws.{put-tells}
 use borrow.Author.Needs.{needs}
 use Rattle.printing.proofs.another.Statement.{statement}
 use Rattle.printing.proofs.another.Tie as tie
-use Rattle.printing.proofs.another.Reads as reads
-use Rattle.printing.proofs.another.Lts as lts
-use Rattle.streams.proofs.put.Reads as put-reads
-use Rattle.streams.proofs.put_number.Reads as put-number-reads
 
 slice-aggregate-put : tie.Need-slice-aggregate-put
 slice-aggregate-put c = search needs

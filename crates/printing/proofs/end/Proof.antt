@@ -5,10 +5,6 @@ use Rattle.printing.proofs.Laws.{put-tells}
 use borrow.Author.Needs.{needs}
 use Rattle.printing.proofs.end.Statement.{statement}
 use Rattle.printing.proofs.end.Tie as tie
-use Rattle.printing.proofs.end.Reads as reads
-use Rattle.printing.proofs.end.Lts as lts
-use Rattle.printing.proofs.numbers.Reads as numbers-reads
-use Rattle.streams.proofs.put.Reads as put-reads
 
 slice-aggregate-put : tie.Need-slice-aggregate-put
 slice-aggregate-put c = search needs

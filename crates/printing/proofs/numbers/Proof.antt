@@ -8,11 +8,6 @@ use Rattle.printing.proofs.Laws.{four-parts, put-tells, tells-same}
 use borrow.Author.Needs.{needs}
 use Rattle.printing.proofs.numbers.Statement.{statement}
 use Rattle.printing.proofs.numbers.Tie as tie
-use Rattle.printing.proofs.numbers.Reads as reads
-use Rattle.printing.proofs.numbers.Lts as lts
-use Rattle.printing.proofs.another.Reads as another-reads
-use Rattle.streams.proofs.put.Reads as put-reads
-use Rattle.streams.proofs.put_number.Reads as put-number-reads
 
 put-number-requires : tie.Need-put-number-requires
 put-number-requires c κs = search needs

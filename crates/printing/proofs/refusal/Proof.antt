@@ -8,10 +8,6 @@ use Rattle.printing.proofs.Laws.{put-tells, refused-parts, tells-same}
 use borrow.Author.Needs.{needs}
 use Rattle.printing.proofs.refusal.Statement.{statement}
 use Rattle.printing.proofs.refusal.Tie as tie
-use Rattle.printing.proofs.refusal.Reads as reads
-use Rattle.printing.proofs.refusal.Lts as lts
-use Rattle.streams.proofs.put.Reads as put-reads
-use Rattle.streams.proofs.put_number.Reads as put-number-reads
 
 slice-aggregate-put : tie.Need-slice-aggregate-put
 slice-aggregate-put c = search needs

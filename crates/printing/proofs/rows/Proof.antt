@@ -5,9 +5,6 @@ use native.Mathlib.Omega.{arith}
 use Rattle.printing.proofs.Laws.{RowsTold, told-next, told-none}
 use Rattle.printing.proofs.rows.Statement.{statement}
 use Rattle.printing.proofs.rows.Tie as tie
-use Rattle.printing.proofs.rows.Reads as reads
-use Rattle.printing.proofs.rows.Lts as lts
-use Rattle.printing.proofs.row.Reads as row-reads
 
 abbrev Inv-loop : tie.InvT-loop
 Inv-loop out₀ table count told₀ i₀ out told i = (i ≤ count) × RowsTold told₀ out₀ table i told out

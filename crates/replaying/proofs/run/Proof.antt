@@ -4,10 +4,6 @@ use mathlib.Core.Path.{_≡_, refl, _∙_}
 use lib.ListN.{length}
 use Rattle.replaying.proofs.run.Statement.{statement}
 use Rattle.replaying.proofs.run.Tie as tie
-use Rattle.replaying.proofs.run.Reads as reads
-use Rattle.replaying.proofs.run.Lts as lts
-use Rattle.replaying.proofs.command.start.Reads as start-reads
-use Rattle.replaying.proofs.step.Reads as step-reads
 
 abbrev Inv-loop : tie.InvT-loop
 Inv-loop room₀ table₀ bytes₀ input₀ out₀ now₀ turns₀ room table bytes input out now turns =

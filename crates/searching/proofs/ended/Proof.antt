@@ -7,11 +7,6 @@ use Rattle.turning.proofs.Hearings.{first-ended, heard-over, second-ended}
 use borrow.Author.Needs.{needs}
 use Rattle.searching.proofs.ended.Statement.{statement}
 use Rattle.searching.proofs.ended.Tie as tie
-use Rattle.searching.proofs.ended.Reads as reads
-use Rattle.searching.proofs.ended.Lts as lts
-use Rattle.heading.proofs.over.Reads as over-reads
-use Rattle.printing.proofs.refusal.Reads as refusal-reads
-use Rattle.turning.proofs.ended.Reads as ended-reads
 
 enum-told : tie.Need-enum-told
 enum-told c = search needs

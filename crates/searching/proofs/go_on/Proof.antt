@@ -3,11 +3,6 @@ use Rattle.heading.proofs.Heads.{head-ready}
 use borrow.Author.Needs.{needs}
 use Rattle.searching.proofs.go_on.Statement.{statement}
 use Rattle.searching.proofs.go_on.Tie as tie
-use Rattle.searching.proofs.go_on.Reads as reads
-use Rattle.searching.proofs.go_on.Lts as lts
-use Rattle.heading.proofs.first.Reads as first-reads
-use Rattle.heading.proofs.second.Reads as second-reads
-use Rattle.turning.proofs.turns.Reads as turns-reads
 
 enum-told : tie.Need-enum-told
 enum-told c = search needs

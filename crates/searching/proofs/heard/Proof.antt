@@ -6,12 +6,6 @@ use Rattle.printing.proofs.Laws.{put-tells}
 use borrow.Author.Needs.{needs}
 use Rattle.searching.proofs.heard.Statement.{statement}
 use Rattle.searching.proofs.heard.Tie as tie
-use Rattle.searching.proofs.heard.Reads as reads
-use Rattle.searching.proofs.heard.Lts as lts
-use Rattle.searching.proofs.ended.Reads as ended-reads
-use Rattle.searching.proofs.more.Reads as more-reads
-use Rattle.heading.proofs.over.Reads as over-reads
-use Rattle.streams.proofs.tell_failed_read.Reads as tell-failed-read-reads
 
 enum-known-got : tie.Need-enum-known-got
 enum-known-got c = search needs

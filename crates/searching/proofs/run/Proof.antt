@@ -2,9 +2,6 @@
 use borrow.Author.Needs.{needs}
 use Rattle.searching.proofs.run.Statement.{statement}
 use Rattle.searching.proofs.run.Tie as tie
-use Rattle.searching.proofs.run.Reads as reads
-use Rattle.searching.proofs.run.Lts as lts
-use Rattle.searching.proofs.serve.Reads as serve-reads
 
 slice-aggregate-serve : tie.Need-slice-aggregate-serve
 slice-aggregate-serve c = search needs

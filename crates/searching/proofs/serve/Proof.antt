@@ -7,12 +7,6 @@ use Rattle.search_machine.specs.Standing.{Rests}
 use Rattle.searching.proofs.Running.{Sizes, lent-still, rests-start, same-sizes}
 use Rattle.searching.proofs.serve.Statement.{statement}
 use Rattle.searching.proofs.serve.Tie as tie
-use Rattle.searching.proofs.serve.Reads as reads
-use Rattle.searching.proofs.serve.Lts as lts
-use Rattle.searching.proofs.start.Reads as start-reads
-use Rattle.searching.proofs.step.Reads as step-reads
-use Rattle.searching.proofs.written.Reads as written-reads
-use Rattle.streams.proofs.write.Reads as write-reads
 
 abbrev Inv-loop : tie.InvT-loop
 Inv-loop window₀ table₀ literal₀ input₀ out₀ s₀ turns₀ window table literal input out s turns =

@@ -2,10 +2,6 @@
 use borrow.Author.Needs.{needs}
 use Rattle.searching.proofs.start.Statement.{statement}
 use Rattle.searching.proofs.start.Tie as tie
-use Rattle.searching.proofs.start.Reads as reads
-use Rattle.searching.proofs.start.Lts as lts
-use Rattle.searcher.proofs.Searcher.closed.Reads as closed-reads
-use Rattle.streams.proofs.nothing_pending.Reads as nothing-pending-reads
 
 closed-requires : tie.Need-closed-requires
 closed-requires c κs = search needs

@@ -10,11 +10,6 @@ use Rattle.searching.proofs.Running.{collects-none, read-in, rests-hear
 use borrow.Author.Needs.{needs}
 use Rattle.searching.proofs.step.Statement.{statement}
 use Rattle.searching.proofs.step.Tie as tie
-use Rattle.searching.proofs.step.Reads as reads
-use Rattle.searching.proofs.step.Lts as lts
-use Rattle.searching.proofs.go_on.Reads as go-on-reads
-use Rattle.searching.proofs.heard.Reads as heard-reads
-use Rattle.streams.proofs.read.Reads as read-reads
 
 enum-told : tie.Need-enum-told
 enum-told c = search needs

@@ -2,9 +2,6 @@
 use borrow.Author.Needs.{needs}
 use Rattle.searching.proofs.written.Statement.{statement}
 use Rattle.searching.proofs.written.Tie as tie
-use Rattle.searching.proofs.written.Reads as reads
-use Rattle.searching.proofs.written.Lts as lts
-use Rattle.streams.proofs.nothing_pending.Reads as nothing-pending-reads
 
 nothing-pending-requires : tie.Need-nothing-pending-requires
 nothing-pending-requires c κs = search needs

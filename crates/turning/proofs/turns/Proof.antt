@@ -50,7 +50,7 @@ asked c =
     record {
       in-text = pre .0;
       size = c .before .before .before .before .before .before .before .before .before .loop .inv .table-size ∙ pre .1 .lent .table-is;
-      shows = c .before .before .before .before .before .line .ensures;
+      shows = c .before .before .before .before .before .line .ensures .0;
       matches = c .before .before .before .contains-by .ensures;
       answers = c .answer .ensures .0;
       writes = c .answer .ensures .1;

@@ -1,22 +1,10 @@
 -- The part of the table that was lent comes back at its length.
 use native.Mathlib.Omega.{arith}
 use mathlib.Core.Path.{_∙_}
-use lib.ListN.{length, drop, length-append, length-drop, length-take}
+use lib.ListN.{drop, length-append, length-drop, length-take}
 use borrow.Author.Needs.{needs}
 use Rattle.replaying.proofs.command.answer.Statement.{statement}
 use Rattle.replaying.proofs.command.answer.Tie as tie
-use Rattle.replaying.proofs.command.answer.Reads as reads
-use Rattle.replaying.proofs.command.answer.Lts as lts
-use Rattle.forms.proofs.is_within.Reads as is-within-reads
-use Rattle.forms.proofs.number_at.Reads as number-at-reads
-use Rattle.forms.proofs.value.Reads as value-reads
-use Rattle.replaying.proofs.command.bad.Reads as bad-reads
-use Rattle.replaying.proofs.command.ended_line.Reads as ended-line-reads
-use Rattle.replaying.proofs.command.said_number.Reads as said-number-reads
-use Rattle.replaying.proofs.command.said_rows.Reads as said-rows-reads
-use Rattle.replaying.proofs.command.with_searcher.Reads as with-searcher-reads
-use Rattle.replaying.proofs.command.within.Reads as within-reads
-use Rattle.searcher.proofs.Searcher.answer.Reads as answer-reads
 
 number-at-requires : tie.Need-number-at-requires
 number-at-requires c κs = search needs

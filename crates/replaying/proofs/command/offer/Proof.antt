@@ -1,19 +1,9 @@
 -- The part of the room that was lent comes back at its length.
 use native.Mathlib.Omega.{arith}
-use lib.ListN.{length, drop, length-append, length-drop}
+use lib.ListN.{drop, length-append, length-drop}
 use borrow.Author.Needs.{needs}
 use Rattle.replaying.proofs.command.offer.Statement.{statement}
 use Rattle.replaying.proofs.command.offer.Tie as tie
-use Rattle.replaying.proofs.command.offer.Reads as reads
-use Rattle.replaying.proofs.command.offer.Lts as lts
-use Rattle.forms.proofs.hex.Reads as hex-reads
-use Rattle.forms.proofs.word.Reads as word-reads
-use Rattle.replaying.proofs.command.bad.Reads as bad-reads
-use Rattle.replaying.proofs.command.ended_line.Reads as ended-line-reads
-use Rattle.replaying.proofs.command.said_number.Reads as said-number-reads
-use Rattle.replaying.proofs.command.with_searcher.Reads as with-searcher-reads
-use Rattle.replaying.proofs.command.within.Reads as within-reads
-use Rattle.searcher.proofs.Searcher.offer.Reads as offer-reads
 
 word-requires : tie.Need-word-requires
 word-requires c κs = search needs

@@ -3,16 +3,6 @@ use native.Mathlib.Omega.{arith}
 use borrow.Author.Needs.{needs}
 use Rattle.replaying.proofs.command.poke.Statement.{statement}
 use Rattle.replaying.proofs.command.poke.Tie as tie
-use Rattle.replaying.proofs.command.poke.Reads as reads
-use Rattle.replaying.proofs.command.poke.Lts as lts
-use Rattle.forms.proofs.hex.Reads as hex-reads
-use Rattle.forms.proofs.number_at.Reads as number-at-reads
-use Rattle.forms.proofs.word.Reads as word-reads
-use Rattle.line_buffer.proofs.take_in.Reads as take-in-reads
-use Rattle.replaying.proofs.command.bad.Reads as bad-reads
-use Rattle.replaying.proofs.command.ended_line.Reads as ended-line-reads
-use Rattle.replaying.proofs.command.said.Reads as said-reads
-use Rattle.replaying.proofs.command.within.Reads as within-reads
 
 number-at-requires : tie.Need-number-at-requires
 number-at-requires c κs = search needs
@@ -86,14 +76,23 @@ returns-4 c = search needs
 within-requires : tie.Need-within-requires
 within-requires c κs = search needs
 
-slice-reshare-prefix-take-in : tie.Need-slice-reshare-prefix-take-in
-slice-reshare-prefix-take-in c = search needs
+slice-reshare-prefix-copy : tie.Need-slice-reshare-prefix-copy
+slice-reshare-prefix-copy c = search needs
 
-slice-aggregate-take-in : tie.Need-slice-aggregate-take-in
-slice-aggregate-take-in c = search needs
+slice-aggregate-copy : tie.Need-slice-aggregate-copy
+slice-aggregate-copy c = search needs
 
-take-in-requires : tie.Need-take-in-requires
-take-in-requires c κs = omega (arith, c .before .before .within .ensures, c .before .before .before .before .if2 .left, c .before .before .before .before .before .if1 .left)
+sub-copy : tie.Need-sub-copy
+sub-copy c = search needs
+
+part-copy-start : tie.Need-part-copy-start
+part-copy-start c = search needs
+
+part-copy-end : tie.Need-part-copy-end
+part-copy-end c = search needs
+
+copy-requires : tie.Need-copy-requires
+copy-requires c κs = omega (arith, c .before .before .within .ensures, c .before .before .before .before .if2 .left, c .before .before .before .before .before .if1 .left)
 
 slice-aggregate-said : tie.Need-slice-aggregate-said
 slice-aggregate-said c = search needs
@@ -144,9 +143,12 @@ poke-spec =
     same-length-7
     returns-4
     within-requires
-    slice-reshare-prefix-take-in
-    slice-aggregate-take-in
-    take-in-requires
+    slice-reshare-prefix-copy
+    slice-aggregate-copy
+    sub-copy
+    part-copy-start
+    part-copy-end
+    copy-requires
     slice-aggregate-said
     said-requires
     ended-line-requires

@@ -3,9 +3,6 @@ use mathlib.Core.Path.{_∙_}
 use borrow.Author.Needs.{needs}
 use Rattle.replaying.proofs.command.said_four.Statement.{statement}
 use Rattle.replaying.proofs.command.said_four.Tie as tie
-use Rattle.replaying.proofs.command.said_four.Reads as reads
-use Rattle.replaying.proofs.command.said_four.Lts as lts
-use Rattle.replaying.proofs.command.said_number.Reads as said-number-reads
 
 slice-aggregate-said-number : tie.Need-slice-aggregate-said-number
 slice-aggregate-said-number c = search needs

@@ -6,9 +6,6 @@ use lib.ListN.{length}
 use native.Mathlib.Omega.{arith}
 use Rattle.replaying.proofs.command.said_numbers.Statement.{statement}
 use Rattle.replaying.proofs.command.said_numbers.Tie as tie
-use Rattle.replaying.proofs.command.said_numbers.Reads as reads
-use Rattle.replaying.proofs.command.said_numbers.Lts as lts
-use Rattle.replaying.proofs.command.said_number.Reads as said-number-reads
 
 abbrev Inv-loop : tie.InvT-loop
 Inv-loop out₀ numbers told₀ i₀ t6 out told i = (i ≤ length numbers) × (length out ≡ length out₀) × (length t6 ≡ 1)

@@ -6,10 +6,6 @@ use lib.ListN.{length}
 use native.Mathlib.Omega.{arith}
 use Rattle.replaying.proofs.command.said_rows.Statement.{statement}
 use Rattle.replaying.proofs.command.said_rows.Tie as tie
-use Rattle.replaying.proofs.command.said_rows.Reads as reads
-use Rattle.replaying.proofs.command.said_rows.Lts as lts
-use Rattle.replaying.proofs.command.least.Reads as least-reads
-use Rattle.replaying.proofs.command.said_row.Reads as said-row-reads
 
 abbrev Inv-loop : tie.InvT-loop
 Inv-loop out₀ table rows count told₀ i₀ out told i = (i ≤ count) × (4 * count ≤ length table) × (length out ≡ length out₀)

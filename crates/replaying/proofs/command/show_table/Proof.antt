@@ -3,13 +3,6 @@ use native.Mathlib.Omega.{arith}
 use borrow.Author.Needs.{needs}
 use Rattle.replaying.proofs.command.show_table.Statement.{statement}
 use Rattle.replaying.proofs.command.show_table.Tie as tie
-use Rattle.replaying.proofs.command.show_table.Reads as reads
-use Rattle.replaying.proofs.command.show_table.Lts as lts
-use Rattle.forms.proofs.number_at.Reads as number-at-reads
-use Rattle.replaying.proofs.command.bad.Reads as bad-reads
-use Rattle.replaying.proofs.command.ended_line.Reads as ended-line-reads
-use Rattle.replaying.proofs.command.said.Reads as said-reads
-use Rattle.replaying.proofs.command.said_numbers.Reads as said-numbers-reads
 
 number-at-requires : tie.Need-number-at-requires
 number-at-requires c κs = search needs

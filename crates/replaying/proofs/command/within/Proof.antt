@@ -4,9 +4,6 @@ use lib.ListN.{length-take}
 use borrow.Author.Needs.{needs}
 use Rattle.replaying.proofs.command.within.Statement.{statement}
 use Rattle.replaying.proofs.command.within.Tie as tie
-use Rattle.replaying.proofs.command.within.Reads as reads
-use Rattle.replaying.proofs.command.within.Lts as lts
-use Rattle.replaying.proofs.command.least.Reads as least-reads
 
 least-requires : tie.Need-least-requires
 least-requires c κs = search needs

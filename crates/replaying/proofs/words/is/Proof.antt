@@ -5,8 +5,6 @@ use lib.ListN.{length}
 use native.Mathlib.Omega.{arith}
 use Rattle.replaying.proofs.words.is.Statement.{statement}
 use Rattle.replaying.proofs.words.is.Tie as tie
-use Rattle.replaying.proofs.words.is.Reads as reads
-use Rattle.replaying.proofs.words.is.Lts as lts
 
 abbrev Inv-loop : tie.InvT-loop
 Inv-loop word name i₀ i = i ≤ length word

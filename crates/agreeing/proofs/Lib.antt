@@ -1,0 +1,2 @@
+-- What is proved of agreement.
+pub mod Laws

@@ -1,0 +1,21 @@
+-- By the limit: none, or a number.
+use borrow.Author.Needs.{needs}
+use Rattle.agreeing.proofs.limit_in_range.Statement.{statement}
+use Rattle.agreeing.proofs.limit_in_range.Tie as tie
+use Rattle.agreeing.proofs.limit_in_range.Reads as reads
+use Rattle.agreeing.proofs.limit_in_range.Lts as lts
+
+enum-told : tie.Need-enum-told
+enum-told c = search needs
+
+enum-known-limit : tie.Need-enum-known-limit
+enum-known-limit c = search needs
+
+returns : tie.Need-returns
+returns c = search needs
+
+returns-2 : tie.Need-returns-2
+returns-2 c = rw (c .before .limit .given .1)
+
+pub limit-in-range-spec : {M : Type 1} → statement M
+limit-in-range-spec = tie.close (tie.spec enum-told enum-known-limit returns returns-2)

@@ -1,0 +1,2 @@
+-- What is proved of the line ahead.
+pub mod Laws

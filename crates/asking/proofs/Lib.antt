@@ -1,0 +1,2 @@
+-- What is proved of asking.
+pub mod Laws

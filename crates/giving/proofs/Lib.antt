@@ -1,0 +1,2 @@
+-- What is proved of one line answered.
+pub mod Laws

@@ -1,0 +1,2 @@
+-- What one line brings, as the code divides it.
+pub mod Fated

@@ -1,2 +1,0 @@
--- What the calls ask of a session, as the code divides it.
-pub mod Held

@@ -1,0 +1,2 @@
+-- What is proved of a step.
+pub mod Laws

@@ -1,0 +1,47 @@
+-- One match more, where the line is one.
+use borrow.Author.Needs.{needs}
+use Rattle.stepping.proofs.matches_next.Statement.{statement}
+use Rattle.stepping.proofs.matches_next.Tie as tie
+use Rattle.stepping.proofs.matches_next.Reads as reads
+use Rattle.stepping.proofs.matches_next.Lts as lts
+
+enum-told : tie.Need-enum-told
+enum-told c = search needs
+
+add-result : tie.Need-add-result
+add-result c = search needs
+
+enum-told-2 : tie.Need-enum-told-2
+enum-told-2 c = search needs
+
+enum-told-3 : tie.Need-enum-told-3
+enum-told-3 c = search needs
+
+enum-told-4 : tie.Need-enum-told-4
+enum-told-4 c = search needs
+
+returns : tie.Need-returns
+returns c = rw (c .enum-told .given .1)
+
+returns-2 : tie.Need-returns-2
+returns-2 c = search needs
+
+returns-3 : tie.Need-returns-3
+returns-3 c = search needs
+
+returns-4 : tie.Need-returns-4
+returns-4 c = search needs
+
+pub matches-next-spec : {M : Type 1} → statement M
+matches-next-spec =
+    tie.close
+    (tie.spec
+    enum-told
+    add-result
+    enum-told-2
+    enum-told-3
+    enum-told-4
+    returns
+    returns-2
+    returns-3
+    returns-4)
