@@ -3,14 +3,19 @@
 import os
 import platform
 import subprocess
+import sys
 from functools import lru_cache
 from pathlib import Path
-
-from cases import Failed
 
 ROOT = Path(__file__).resolve().parent.parent
 # Another folder with the programs may stand in SIROVANY_PROGRAMS.
 FOLDER = Path(os.environ.get("SIROVANY_PROGRAMS", ROOT / "target" / "bin"))
+
+
+def want(*things):
+    """Ends a test that wants something that is missing, with a message and status 2."""
+    if subprocess.run([ROOT / "compare" / "wants", *things]).returncode != 0:
+        sys.exit(2)
 
 
 @lru_cache
@@ -20,6 +25,4 @@ def command(name, folder=FOLDER):
     tools = Path(guide).parent.parent / "on" / platform.machine() / "toolchain"
     emulator = tools / "bin" / "qemu-x86_64"
     loader = [str(tools / "lib" / "ld-linux-x86-64.so.2"), "--library-path", str(tools / "lib")]
-    if not (folder / name).exists():
-        raise Failed(f"there is no program {name} in {folder}; `rt check {name}` builds it")
     return [*([str(emulator)] if emulator.exists() else []), *loader, str(folder / name)]

@@ -72,8 +72,6 @@ def figures_of(said):
 
 def ask(lines):
     """What the oracle says to each of some lines."""
-    if not ORACLE.exists():
-        raise Failed("there is no oracle; compare/build-oracle builds it")
     done = subprocess.run([ORACLE], input="\n".join(lines) + "\n", capture_output=True, text=True)
     if done.returncode != 0:
         raise Failed(done.stderr.strip())

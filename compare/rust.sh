@@ -1,6 +1,8 @@
 # The Rust crate grep-searcher from its own sources, and programs of ours over it: for the scripts that build one to source.
-# Wants $root, the repository, and $sources, the folder that holds the crate's src/. All is built in target/oracle.
+# Wants $root, the repository. SIROVANY_RUST may name the folder that holds the crate's src/; the default is the one this project
+# was given. `compare/wants rust` looks whether all is there. All is built in target/oracle.
 
+sources=${SIROVANY_RUST:-$root/../shared/docs/src}
 out=$root/target/oracle
 packages=(
     librust-bstr-dev
@@ -12,26 +14,8 @@ packages=(
     librust-memmap2-dev
 )
 
-fail() {
-    printf '%s: %s\n' "$(basename "$0")" "$1" >&2
-    exit 1
-}
-
-# Quiet where nothing is missing, so that a script can start with it every time.
-install_packages() { # PACKAGE ..
-    local package missing=()
-    for package; do
-        dpkg-query -W -f='${Status}' "$package" 2>/dev/null | grep -q 'ok installed' || missing+=("$package")
-    done
-    [ "${#missing[@]}" -gt 0 ] || return 0
-    apt-cache show "${missing[@]}" >/dev/null 2>&1 || apt-get update -qq
-    DEBIAN_FRONTEND=noninteractive apt-get install -y -qq --no-install-recommends "${missing[@]}" >/dev/null
-}
-
 # Times are kept, so that the unchanged crate is not compiled again.
 assemble_crate() {
-    [ -f "$sources/src/searcher/glue.rs" ] || fail "no Rust sources in $sources"
-    install_packages "${packages[@]}"
     rm -rf "$out/grep-searcher"
     mkdir -p "$out/grep-searcher"
     cp -rp "$sources/src" "$out/grep-searcher/src"
@@ -45,9 +29,7 @@ assemble_crate() {
 build_beside() { # NAME FOLDER [WORD ..]
     local name=$1 folder=$2 registry
     shift 2
-    command -v cargo >/dev/null || fail 'cargo is not on the path'
     registry=$(dpkg -L librust-grep-matcher-dev | sed -n 's,/grep-matcher-[^/]*$,,p' | head -n 1)
-    [ -d "$registry" ] || fail 'the packages hold no crate sources'
     rm -rf "$out/$name-program"
     mkdir -p "$out/$name-program"
     # with new times, since cargo does not see that a library named in the words has changed

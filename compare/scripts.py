@@ -27,13 +27,18 @@ def rows(outcome):
     return listed("r {} {} {} {}".format(*row) for row in outcome)
 
 
+def fields(s, names):
+    """Numbers of a session, as the fields of a literal."""
+    return "".join(f"{name} = {getattr(s, name)}; " for name in names.split())
+
+
 def made_up(s):
-    """A session as a literal."""
-    numbers = "".join(f"{name} = {getattr(s, name)}; " for name in s._fields[1:9])
+    """A session as a literal: its walk and its places."""
     place = "Nowhere" if s.replaced is None else f"At {s.replaced}"
     return (
-        f"(record {{ settings = {settings(s.settings)}; {numbers}given = {str(s.given).lower()}; "
-        f"going = {GOING[s.going]}; input = {INPUT[s.input]}; replaced = {place} }})"
+        f"(record {{ walk = record {{ settings = {settings(s.settings)}; {fields(s, 'bytes lines matches left')}"
+        f"given = {str(s.given).lower()}; going = {GOING[s.going]} }}; "
+        f"places = record {{ {fields(s, 'window floor next end')}input = {INPUT[s.input]}; replaced = {place} }} }})"
     )
 
 

@@ -3,6 +3,10 @@
 Written from the papers' rules and not from the Rust. Each call gives all that comes back, refused or not, and
 changes nothing that it was handed. Whatever concerns lines is read from the lent window as it stands. The length
 of the window is the session's `window`; the field of that name in the settings is not looked at.
+
+A model apart: it knows the session's fields by itself, in one flat list, and nothing of it is made from the crates, where
+they lie in two structs, the walk and the places. A new field has to be given to both; `made_up` of scripts.py writes a
+session of this model as one of the specs.
 """
 
 from collections import namedtuple
