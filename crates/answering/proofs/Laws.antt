@@ -7,7 +7,7 @@ use lib.Dec.{eqb, ltb}
 use lib.ListN.{length}
 use borrow.Author.Tests.{eq-eqb, ne-eqb}
 use Rattle.definition.specs.Rows.{rowSize}
-use Rattle.definition.specs.State.{fateOf, stateNext}
+use Rattle.definition.specs.State.{stateNext}
 use Rattle.core.specs.declared.Given.{Given}
 use Rattle.core.specs.Answer.{AnswerDecision, AnswerRefused, Give, answeringSince, belowOneSince, getsRow, given, givenBy, givenTable, givenTableBy, rowsSince, stateSince, walkNext}
 use Rattle.core.specs.Step.{walkStep}

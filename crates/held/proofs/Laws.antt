@@ -2,12 +2,12 @@
 use Prim.Native.Nat.{ℕ, _+_, _-_, _≤_}
 use mathlib.Core.Path.{_≡_}
 use mathlib.Core.Bool.{true, and-eq-true-iff}
-use mathlib.Core.List.{List, flatten}
+use mathlib.Core.List.{List}
 use native.Mathlib.Omega.{arith}
 use lib.Dec.{eqb}
 use lib.ListN.{length}
 use borrow.Author.Tests.{eq-eqb}
-use Rattle.definition.specs.Definition.{keptLines, lastOf}
+use Rattle.definition.specs.Definition.{keptLines}
 use Rattle.definition.specs.Text.{part}
 use Rattle.definition.proofs.Terminator.{flatten-last}
 use Rattle.lines.specs.Lines.{lastStart}

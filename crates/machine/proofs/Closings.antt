@@ -2,7 +2,7 @@
 use Prim.Native.Nat.{ℕ, _+_, _-_, _≤_, _<_}
 use mathlib.Core.Path.{_≡_, refl, sym, _∙_, ap, subst}
 use mathlib.Core.Bool.{Bool, true, false, true≢false}
-use mathlib.Core.List.{List, [], _∷_, _++_, append-nil, flatten}
+use mathlib.Core.List.{List, [], _∷_, _++_, append-nil}
 use mathlib.Core.Logic.{_⊎_, inl, inr, ⊎-elim}
 use native.Mathlib.Omega.{arith}
 use lib.ListN.{length, take, drop, length-append}
@@ -10,15 +10,15 @@ use Rattle.definition.specs.declared.Going.the-variants.{On}
 use Rattle.definition.specs.declared.Row.{Row}
 use Rattle.definition.specs.declared.Settings.{Settings}
 use Rattle.definition.specs.Bounds.{maxInput}
-use Rattle.definition.specs.Definition.{endOf, goneLines, quitMet}
-use Rattle.definition.specs.Text.{firstLength, firstPlace, lines, text}
+use Rattle.definition.specs.Definition.{goneLines, quitMet}
+use Rattle.definition.specs.Text.{firstLength, lines, text}
 use Rattle.definition.proofs.Terminator.{lines-head}
 use Rattle.session.specs.declared.Input.{Input}
 use Rattle.session.specs.declared.Input.the-variants.{Open, Ended, QuitFound}
 use Rattle.session.specs.declared.Session.{Session}
 use Rattle.session.specs.Calls.{offered, recorded}
-use Rattle.session.specs.Held.{heldBytes, isOpen, keptBytes, unanswered, waits}
-use Rattle.session.specs.Promises.{answersOf, keptBefore}
+use Rattle.session.specs.Held.{heldBytes, isOpen, unanswered, waits}
+use Rattle.session.specs.Promises.{answersOf}
 use Rattle.session.specs.Sound.{takenBytes}
 use Rattle.session.proofs.Carry.{more-text, not-idle}
 use Rattle.session.proofs.Cases.{offer-case, offer-only}
@@ -29,8 +29,8 @@ use Rattle.session.proofs.Parts.{kept-le}
 use Rattle.session.proofs.Promises.{finished-inv}
 use Rattle.session.proofs.Room.{longer-line, no-terminator}
 use Rattle.machine.specs.Program.{Program}
-use Rattle.machine.specs.Promises.{Ending, Gone, HasEnded, Prints, Whole, breaksOff, broken, cut-off, finished, no-room, said, too-large, unended, whole}
-use Rattle.machine.proofs.Counted.{Facts, all, facts, past, upto}
+use Rattle.machine.specs.Promises.{Ending, Gone, HasEnded, Prints, Whole, breaksOff, cut-off, finished, no-room, said, too-large, whole}
+use Rattle.machine.proofs.Counted.{Facts, facts, past, upto}
 
 -- one moment of a run of a program: what is still to come of the input is `rest`
 pub record Now (p : Program) (c : Settings) (input : List ℕ) (how : Ending) (s : Session) (w rest : List ℕ) (count : ℕ) (given : List Row) : Type 0 where

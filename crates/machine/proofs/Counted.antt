@@ -1,5 +1,5 @@
 -- What the invariant of a run says of the lines gone through, which are the first so many of the text's.
-use Prim.Native.Nat.{ℕ, _+_, _≤_, _<_}
+use Prim.Native.Nat.{ℕ, _+_, _≤_}
 use mathlib.Core.Path.{_≡_, refl, sym, _∙_, ap, subst}
 use mathlib.Core.Bool.{Bool}
 use mathlib.Core.List.{List, [], _∷_, _++_, flatten}
@@ -13,7 +13,7 @@ use Rattle.definition.specs.declared.Row.{Row}
 use Rattle.definition.specs.declared.Settings.{Settings}
 use Rattle.definition.specs.Bounds.{maxInput}
 use Rattle.definition.specs.Definition.{goneLines}
-use Rattle.definition.specs.State.{State, begun, fateOf, state, stateNext, stepState}
+use Rattle.definition.specs.State.{State, begun, state, stateNext, stepState}
 use Rattle.definition.specs.Text.{lines, text}
 use Rattle.definition.proofs.Kept.{state-append, state-stopped}
 use Rattle.definition.proofs.Same.{same-lines}

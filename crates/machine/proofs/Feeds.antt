@@ -1,8 +1,8 @@
 -- Which case of a turn each case of the calls is.
 use Prim.Native.Nat.{ℕ, _≤_, _<_}
-use mathlib.Core.Path.{_≡_, refl, sym, _∙_, ap, subst}
+use mathlib.Core.Path.{_≡_, sym, _∙_, ap}
 use mathlib.Core.Bool.{Bool, true, false, cond, not}
-use mathlib.Core.List.{List, [], _∷_, _++_}
+use mathlib.Core.List.{List, []}
 use native.Mathlib.Omega.{arith}
 use lib.Dec.{eqb}
 use lib.ListN.{length, drop}
@@ -12,7 +12,7 @@ use Rattle.session.specs.declared.Session.{Session}
 use Rattle.session.specs.Calls.{answerRows, answerSession, answering, offered, offeredWindow, recorded, shownLine, told}
 use Rattle.session.proofs.Taking.{taken-le}
 use Rattle.machine.specs.declared.Next.the-variants.{Goes, Wants, Refuses, Ends}
-use Rattle.machine.specs.Machine.{Turn, ended, ends, goes, wants}
+use Rattle.machine.specs.Machine.{ended, ends, goes, wants}
 use Rattle.machine.specs.Program.{Program, Standing, answers, fed, fedEnd, fedWindow, feeds, hears, stays, tableSize, turns}
 
 abbrev pub at : Session → List ℕ → List ℕ → Standing

@@ -1,5 +1,5 @@
 -- The promises of specs/Promises.antt.
-use Prim.Native.Nat.{ℕ, _+_, _*_, _≤_, _<_}
+use Prim.Native.Nat.{ℕ, _+_, _*_, _≤_}
 use mathlib.Core.Path.{_≡_, refl, sym, _∙_, ap, subst}
 use mathlib.Core.Bool.{Bool, true, false}
 use mathlib.Core.List.{List, [], _∷_, _++_, append-nil, flatten, map}
@@ -10,7 +10,6 @@ use Rattle.definition.specs.declared.Going.{Going}
 use Rattle.definition.specs.declared.Going.the-variants.{On, LimitMet, NonmatchMet}
 use Rattle.definition.specs.declared.Place.{Place}
 use Rattle.definition.specs.declared.Place.the-variants.{Nowhere, At}
-use Rattle.definition.specs.declared.Row.{Row}
 use Rattle.definition.specs.declared.Settings.{Settings}
 use Rattle.definition.specs.Definition.{binaryPlace, bytesOf, causeOf, endOf, endRecord, endWith, gone, goneLines, quitMet, rowsOf}
 use Rattle.definition.specs.State.{State, begun, rows, state}
@@ -19,7 +18,7 @@ use Rattle.definition.proofs.Kept.{rows-append, rows-stopped, state-append, sta
 use Rattle.definition.proofs.Lists.{flatten-append}
 use Rattle.definition.proofs.Same.{same-lines, same-rows}
 use Rattle.definition.proofs.Terminator.{lines-whole}
-use Rattle.session.specs.declared.Input.the-variants.{Open, Ended}
+use Rattle.session.specs.declared.Input.the-variants.{Ended}
 use Rattle.session.specs.declared.Session.{Session}
 use Rattle.session.specs.Calls.{fresh, opened}
 use Rattle.session.specs.Promises.{answersOf}
@@ -29,7 +28,7 @@ use Rattle.session.proofs.History.{inv-run, run-settings}
 use Rattle.session.proofs.Keeps.{served-fresh}
 use Rattle.machine.specs.Machine.{Read, run}
 use Rattle.machine.specs.Program.{Program, begins, driver, turns}
-use Rattle.machine.specs.Promises.{CauseTold, Cut, Ended as EndedText, Gone, OneText, Printed, Prints, RowByRow, Rows, bytesOf as readBytes, cut-off, endingOf, enough, finished, no-room, said, saidFrom, too-large}
+use Rattle.machine.specs.Promises.{CauseTold, Cut, Ended as EndedText, Gone, OneText, Printed, Prints, Rows, bytesOf as readBytes, cut-off, endingOf, finished, no-room, said, saidFrom, too-large}
 use Rattle.machine.proofs.Closings.{Now}
 use Rattle.machine.proofs.Said.{said-rows}
 use Rattle.machine.proofs.Settles.{settle}

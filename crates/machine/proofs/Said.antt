@@ -1,20 +1,16 @@
 -- What is said of one line more.
 use Prim.Native.Nat.{ℕ, _+_, _<_}
-use mathlib.Core.Path.{_≡_, refl, sym, _∙_, ap, ap₂, subst}
+use mathlib.Core.Path.{_≡_, refl, sym, _∙_, ap, ap₂}
 use mathlib.Core.Bool.{Bool, true}
 use mathlib.Core.List.{List, [], _∷_, _++_, append-assoc, append-nil, flatten, map}
-use native.Mathlib.Omega.{arith}
 use lib.ListN.{length, take, drop}
 use lib.Seq.{take-append-add}
 use Rattle.definition.specs.declared.Row.{Row}
 use Rattle.definition.specs.declared.Settings.{Settings}
-use Rattle.definition.specs.Definition.{goneLines}
 use Rattle.definition.specs.State.{State, begun, rows, state, stepRows, stepState}
 use Rattle.definition.specs.Text.{firstPlace, handed, lines, text}
-use Rattle.definition.proofs.Same.{same-lines}
 use Rattle.session.specs.declared.Session.{Session}
-use Rattle.session.specs.Calls.{answerRows, shownLine, waiting}
-use Rattle.session.specs.declared.Waiting.the-variants.{LineWaits}
+use Rattle.session.specs.Calls.{answerRows, shownLine}
 use Rattle.session.specs.Held.{lineLength, unanswered, waits}
 use Rattle.session.specs.Promises.{answersOf}
 use Rattle.session.proofs.Carry.{waiting-now}
@@ -23,7 +19,7 @@ use Rattle.session.proofs.Invariant.{Inv}
 use Rattle.session.proofs.Promises.{shown-handed}
 use Rattle.machine.specs.Program.{Program}
 use Rattle.machine.specs.Promises.{Whole, said, saidFrom}
-use Rattle.machine.proofs.Counted.{all, gone-is, upto}
+use Rattle.machine.proofs.Counted.{gone-is, upto}
 
 pub said-append : (p : Program) (c : Settings) (answers : ℕ → Bool) (s : State) (xs ys : List (List ℕ))
     → saidFrom p c answers s (xs ++ ys) ≡ saidFrom p c answers s xs ++ saidFrom p c answers (state c answers s xs) ys

@@ -1,7 +1,7 @@
 -- Turn after turn, and read after read, until what must be printed is printed.
-use Prim.Native.Nat.{ℕ, zero, suc, _+_, _*_, _≤_, _<_}
+use Prim.Native.Nat.{ℕ, zero, suc, _+_, _*_, _≤_}
 use mathlib.Core.Path.{_≡_, refl, sym, _∙_, ap, subst}
-use mathlib.Core.Bool.{Bool, true, false}
+use mathlib.Core.Bool.{false}
 use mathlib.Core.List.{List, [], _∷_, _++_, append-assoc, append-nil}
 use native.Mathlib.Omega.{arith}
 use lib.ListN.{length}
@@ -16,8 +16,7 @@ use Rattle.session.specs.Promises.{answersOf}
 use Rattle.session.proofs.Agree.{agrees-of}
 use Rattle.session.proofs.Carry.{told-falls, told-served, weight}
 use Rattle.session.proofs.History.{inv-told}
-use Rattle.session.proofs.Invariant.{Inv}
-use Rattle.machine.specs.Machine.{Machine, Read, Turn, ended, ends, failed, goes, run, some, wants}
+use Rattle.machine.specs.Machine.{Read, Turn, ended, ends, failed, goes, run, some, wants}
 use Rattle.machine.specs.Program.{Program, Standing, driver, hears, turns}
 use Rattle.machine.specs.Promises.{Ending, Prints, breaksOff, broken, bytesOf, endingOf, said, unended, whole}
 use Rattle.machine.proofs.Closings.{Now, prints-cut-off}

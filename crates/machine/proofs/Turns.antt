@@ -2,9 +2,9 @@
 -- wants a read, and then nothing is at hand.
 use Prim.Native.Nat.{ℕ, _+_, _*_, _≤_, _<_}
 use mathlib.Core.Path.{_≡_, refl, sym, _∙_, ap, subst}
-use mathlib.Core.Bool.{Bool, true, false, cond}
+use mathlib.Core.Bool.{Bool, true, false}
 use mathlib.Core.List.{List, [], _∷_, _++_, append-nil}
-use mathlib.Core.Logic.{_⊎_, inl, inr, ⊎-elim}
+use mathlib.Core.Logic.{_⊎_, ⊎-elim}
 use native.Mathlib.Omega.{arith}
 use lib.ListN.{length, take, drop}
 use lib.Seq.{drop-append-le, take-append-seam}
@@ -12,15 +12,15 @@ use Rattle.definition.specs.declared.Going.the-variants.{On}
 use Rattle.definition.specs.declared.Row.{Row}
 use Rattle.definition.specs.declared.Settings.{Settings}
 use Rattle.definition.specs.Rows.{rowSize}
-use Rattle.definition.specs.Text.{firstLength, firstPlace}
+use Rattle.definition.specs.Text.{firstPlace}
 use Rattle.definition.proofs.Terminator.{line-ends}
-use Rattle.core.specs.Answer.{AnswerRefused, Give, walkNext}
+use Rattle.core.specs.Answer.{walkNext}
 use Rattle.core.specs.Walk.{isOn}
 use Rattle.core.proofs.Keeps.{is-on}
 use Rattle.core.proofs.Laws.{before-allowed}
-use Rattle.session.specs.declared.Input.the-variants.{Open, Ended, QuitFound}
+use Rattle.session.specs.declared.Input.the-variants.{Open, Ended}
 use Rattle.session.specs.declared.Session.{Session}
-use Rattle.session.specs.Calls.{Idle, OfferDecision, OfferRefused, Take, answerRows, answerSession, answering, offerAnswer, offered, offeredWindow, offering, placesNext, recorded, shownLine, stored}
+use Rattle.session.specs.Calls.{Idle, OfferDecision, OfferRefused, Take, answerRows, answerSession, offerAnswer, offered, offeredWindow, offering, placesNext, recorded, shownLine, stored}
 use Rattle.session.specs.Held.{isOpen, lineLength, unanswered, waits}
 use Rattle.session.specs.Promises.{answersOf}
 use Rattle.session.proofs.Carry.{answer-falls, ends-now, held-ends, is-open, nothing-held, offer-falls, record-served, stopped-ends, waiting-now, weight}

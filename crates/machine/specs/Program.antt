@@ -2,7 +2,7 @@
 -- record, offers what is left of what was read, or reads.
 use Prim.Native.Nat.{ℕ, _+_, _*_}
 use mathlib.Core.Bool.{Bool, cond, not}
-use mathlib.Core.List.{List, [], _∷_, _++_}
+use mathlib.Core.List.{List, [], _++_}
 use lib.Dec.{eqb}
 use lib.ListN.{length, drop}
 use Rattle.definition.specs.declared.End.{End}
@@ -13,7 +13,6 @@ use Rattle.definition.specs.Rows.{rowSize}
 use Rattle.core.specs.Answer.{AnswerDecision, AnswerRefused, Give}
 use Rattle.session.specs.declared.OfferOutcome.{OfferOutcome}
 use Rattle.session.specs.declared.Session.{Session}
-use Rattle.session.specs.declared.TellOutcome.{TellOutcome}
 use Rattle.session.specs.Calls.{answerRows, answerSession, answering, offered, offeredWindow, opened, recorded, shownLine, told}
 use Rattle.machine.specs.declared.Fed.{Fed}
 use Rattle.machine.specs.declared.Next.{Next}

@@ -1,7 +1,6 @@
 -- The list of contradictions as facts.
 use mathlib.Core.Path.{_≡_}
 use mathlib.Core.Bool.{true, and-eq-true-iff}
-use lib.Dec.{ltb, leb}
 use borrow.Author.Tests.{ltb-true, leb-true, lt-ltb, le-leb}
 use Rattle.definition.specs.Bounds.{maxWindow}
 use Rattle.core.specs.Walk.{walkAgrees}

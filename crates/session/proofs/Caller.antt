@@ -14,7 +14,7 @@ use Rattle.definition.specs.declared.Row.{Row}
 use Rattle.definition.specs.declared.Going.{Going}
 use Rattle.definition.specs.declared.Going.the-variants.{On, LimitMet, NonmatchMet}
 use Rattle.definition.specs.declared.Settings.{Settings}
-use Rattle.definition.specs.Bounds.{allowed, contextual, maxInput, maxWindow}
+use Rattle.definition.specs.Bounds.{allowed, maxInput, maxWindow}
 use Rattle.definition.specs.Rows.{flat, rowSize}
 use Rattle.definition.specs.State.{stateNext}
 use Rattle.definition.specs.Text.{firstLength, firstPlace, handed, lines, part, upTo}

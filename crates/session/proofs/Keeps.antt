@@ -1,31 +1,25 @@
 -- Each call keeps the list of contradictions empty, whatever window, piece and table it is given.
 use Prim.Native.Nat.{ℕ, _+_, _-_, _*_, _≤_, _<_}
 use mathlib.Core.Path.{_≡_, refl}
-use mathlib.Core.Bool.{Bool, true, false, cond, not, _&&_, _||_, and-eq-true-iff, false≢true, or-true}
+use mathlib.Core.Bool.{Bool, true, false, cond, _&&_, and-eq-true-iff}
 use mathlib.Core.List.{List}
-use mathlib.Core.Logic.{_⊎_, inl, inr, ⊎-elim}
 use native.Mathlib.Omega.{arith}
 use lib.Dec.{ltb, leb, eqb}
 use lib.ListN.{length, drop, length-take}
-use borrow.Author.Tests.{not-true, ltb-true, leb-true, leb-false, eqb-true, le-leb, eq-eqb}
+use borrow.Author.Tests.{ltb-true, leb-true, eqb-true, eq-eqb}
 use Rattle.definition.specs.declared.Fate.{Fate}
-use Rattle.definition.specs.declared.Fate.the-variants.{Match, After, Other, NoRow}
 use Rattle.definition.specs.declared.Going.{Going}
-use Rattle.definition.specs.declared.Going.the-variants.{On, LimitMet, NonmatchMet}
 use Rattle.definition.specs.declared.Limit.{Limit}
-use Rattle.definition.specs.declared.Limit.the-variants.{Unlimited, Most}
 use Rattle.definition.specs.declared.Settings.{Settings}
 use Rattle.definition.specs.Bounds.{allowed, maxInput, maxWindow}
-use Rattle.definition.specs.Definition.{limitReached, selected}
 use Rattle.definition.specs.Rows.{rowSize}
-use Rattle.definition.specs.State.{State, fateOf, stateNext}
-use Rattle.definition.proofs.Fates.{FateCase, selects, owes, passes, skips, fate-case, selected-below}
+use Rattle.definition.specs.State.{fateOf}
 use Rattle.core.specs.Answer.{AnswerDecision, AnswerRefused, Give, getsRow, stateSince}
 use Rattle.core.proofs.Keeps.{agree-fewer, agree-next, agree-start, sinceNow, waiting-some, waits-why, Waits}
 use Rattle.session.specs.declared.Session.{Session}
 use Rattle.session.specs.Calls.{Idle, OfferDecision, OfferRefused, Take, answerAnswer, answerRows, answerSession, answered, answering, beforeQuit, fitting, fresh, offerAnswer, offered, offering, opened, opening, placesNext, stored, taking, told, toldSession}
 use Rattle.session.specs.Held.{heldBytes, isOpen, keptBytes, keptFrom, lineLength, shown, since, unanswered, waits}
-use Rattle.session.specs.Sound.{Agree, PlacesAgree, agrees, aheadBytes, sinceBytes, sound, takenBytes}
+use Rattle.session.specs.Sound.{Agree, agrees, aheadBytes, sinceBytes, sound, takenBytes}
 use Rattle.session.proofs.Agree.{agree-of, agrees-of}
 use Rattle.session.proofs.Cases.{OfferCase, unsound, idling, quits, sized, full, takes, offer-case, AnswerCase, few, gives, none, below, answer-case}
 use Rattle.session.proofs.Cases as Cases

@@ -1,15 +1,13 @@
 -- Laws of parts of a window, and of the kept part: all hold for any window.
 use Prim.Native.Nat.{ℕ, zero, suc, _+_, _-_, _≤_}
-use mathlib.Core.Path.{_≡_, refl, sym, _∙_, ap}
+use mathlib.Core.Path.{_≡_, sym, _∙_, ap}
 use mathlib.Core.List.{List, [], _∷_, _++_, flatten}
 use native.Mathlib.Omega.{arith}
-use lib.ListN.{length, take, drop, length-append, length-take, length-drop}
+use lib.ListN.{length, take, drop, length-take, length-drop}
 use lib.Seq.{drop-drop, take-add, take-nil}
-use Rattle.definition.specs.Definition.{bytesOf, lastOf, keptLines}
+use Rattle.definition.specs.Definition.{lastOf, keptLines}
 use Rattle.definition.specs.Text.{part}
-use Rattle.definition.proofs.Lists.{flatten-append}
 use Rattle.definition.proofs.Terminator.{flatten-last}
-use Rattle.core.specs.Answer.{backFrom}
 use Rattle.session.specs.declared.Session.{Session}
 use Rattle.session.specs.Held.{keptBytes, keptFrom, sinceLines}
 

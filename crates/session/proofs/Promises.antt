@@ -6,14 +6,14 @@ use mathlib.Core.List.{List, _∷_, _++_, append-nil, flatten}
 use mathlib.Core.Logic.{_⊎_, inl, inr, ⊎-elim}
 use native.Mathlib.Decide.{decLe}
 use native.Mathlib.Omega.{arith}
-use lib.ListN.{length, take, drop, length-take}
-use lib.Seq.{drop-at, take-take}
+use lib.ListN.{length, take, drop}
+use lib.Seq.{drop-at}
 use Rattle.definition.specs.declared.Row.{Row}
 use Rattle.definition.specs.declared.Settings.{Settings}
 use Rattle.definition.specs.Definition.{endOf, endRecord, goneLines, rowsOf}
 use Rattle.definition.specs.Laws.{finalState}
 use Rattle.definition.specs.State.{State, begun, rows, state, trim}
-use Rattle.definition.specs.Text.{firstLength, handed, lines, text}
+use Rattle.definition.specs.Text.{handed, lines, text}
 use Rattle.definition.proofs.Kept.{rows-append}
 use Rattle.definition.proofs.Same.{same-end, same-lines, same-rows}
 use Rattle.core.specs.Answer.{stateSince}

@@ -1,10 +1,8 @@
 -- 01, refusal 6: the list of numbers that contradict each other, and the closed session.
 use Prim.Native.Nat.{ℕ, _+_, _-_, _≤_, _<_}
-use mathlib.Core.Path.{_≡_}
 use mathlib.Core.Bool.{Bool, _&&_}
 use mathlib.Core.List.{List, [], _∷_}
 use lib.Dec.{ltb, leb, eqb}
-use Rattle.definition.specs.declared.Going.the-variants.{On}
 use Rattle.definition.specs.declared.Place.the-variants.{Nowhere}
 use Rattle.definition.specs.Bounds.{maxWindow, plain}
 use Rattle.core.specs.Walk.{WalkAgree, every, walkAgrees, walkStart}

@@ -5,6 +5,9 @@ use machine::Next;
 use searcher::Searcher;
 ghost use Prim.Native.Nat.{_<_};
 
+// Room for three rows.
+const TABLE: usize = definition::ROW * 3;
+
 fn main() {
     let plain = Settings::plain(b'\n');
     let settings = Settings { before: 1, ..plain };
@@ -15,7 +18,7 @@ fn main() {
 // Answers every line that waits, and offers what is left of the text; twenty turns are more than enough.
 fn search(searcher: Searcher, text: &[u8]) {
     let mut window = [0u8; 6];
-    let mut table = [0u64; 12];
+    let mut table = [0u64; TABLE];
     let mut s = searcher;
     let mut at = 0;
     let mut turns: usize = 0;
@@ -56,7 +59,7 @@ fn is_wanted(line: &[u8]) -> bool {
     }
 }
 
-fn print_rows(table: &[u64; 12], rows: usize) {
+fn print_rows(table: &[u64; TABLE], rows: usize) {
     if 3 < rows {
         return;
     }
@@ -68,17 +71,18 @@ fn print_rows(table: &[u64; 12], rows: usize) {
 }
 
 // The four numbers of a row; all of them are below 10 here.
-fn print_row(table: &[u64; 12], i: usize)
+fn print_row(table: &[u64; TABLE], i: usize)
     requires { ⌜ i < 3 ⌝ }
 {
+    let at = definition::ROW * i;
     let text = [
-        digit(table[4 * i]),
+        digit(table[at]),
         b' ',
-        digit(table[4 * i + 1]),
+        digit(table[at + 1]),
         b' ',
-        digit(table[4 * i + 2]),
+        digit(table[at + 2]),
         b' ',
-        digit(table[4 * i + 3]),
+        digit(table[at + 3]),
         b'\n',
     ];
     io::write_all(1, &text);

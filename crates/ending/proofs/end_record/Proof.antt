@@ -1,6 +1,6 @@
 -- 6, then 7, then the record.
 use mathlib.Core.Path.{_≡_, sym, _∙_}
-use mathlib.Core.Bool.{Bool, true}
+use mathlib.Core.Bool.{true}
 use borrow.Author.Tests.{not-false, not-true}
 use Rattle.session.specs.Calls.{remains}
 use Rattle.session.specs.Sound.{agrees}

@@ -20,25 +20,20 @@ Inv-loop table₀ at part terminator offset number i₀ k₀ table i k = Left te
 abbrev μ-loop : tie.MeasureT-loop
 μ-loop table₀ at part terminator offset number i₀ k₀ table i k = length part - i
 
--- src/lib.rt:48:5
 loop-holds : tie.Need-loop-holds Inv-loop μ-loop
 loop-holds c =
     let a = c .before .before .args in
     left-begun (a .terminator) (a .at) (a .offset) (a .number) (a .part .now) (a .table .now)
 
--- src/lib.rt:49:34
 sub-step : tie.Need-sub-step Inv-loop μ-loop
 sub-step c = omega arith
 
--- src/lib.rt:49:34
 part-step-start : tie.Need-part-step-start Inv-loop μ-loop
 part-step-start c = search needs
 
--- src/lib.rt:49:34
 part-step-end : tie.Need-part-step-end Inv-loop μ-loop
 part-step-end c = search needs
 
--- src/lib.rt:49:13
 step-requires : tie.Need-step-requires Inv-loop μ-loop
 step-requires c κs = search needs
 
@@ -64,39 +59,30 @@ room c =
     row-fits (a .terminator) (a .at) (a .offset) (a .number) (a .part .now) (a .table .now) (l .loop .table) (l .loop .i) (l .loop .k) (l .loop .inv)
     (omega arith) (s .pre .room)
 
--- src/lib.rt:52:21
 add-t17 : tie.Need-add-t17 Inv-loop μ-loop
 add-t17 c = omega (arith, c .before .before .before .loop .inv, c .before .before .before .before .before .before .pre)
 
--- src/lib.rt:54:21
 add-t20 : tie.Need-add-t20 Inv-loop μ-loop
 add-t20 c = omega (arith, room c, c .before .before .before .before .before .before .pre)
 
--- src/lib.rt:56:29
 mul-put-row : tie.Need-mul-put-row Inv-loop μ-loop
 mul-put-row c = omega (arith, room (c .before), c .before .before .before .before .before .before .before .good)
 
--- src/lib.rt:56:24
 add-put-row : tie.Need-add-put-row Inv-loop μ-loop
 add-put-row c = omega (arith, room (c .before), c .before .before .before .before .before .before .before .good)
 
--- src/lib.rt:56:9
 put-row-requires : tie.Need-put-row-requires Inv-loop μ-loop
 put-row-requires c κs = room (c .before) .0
 
--- src/lib.rt:57:9
 add-i : tie.Need-add-i Inv-loop μ-loop
 add-i c = omega (arith, stepped (c .before .before .before .before), c .before .before .before .before .before .before .before .before .before .before .good)
 
--- src/lib.rt:58:9
 add-k : tie.Need-add-k Inv-loop μ-loop
 add-k c = omega (arith, room (c .before .before .before .before), c .before .before .before .before .before .before .before .before .before .before .good)
 
--- src/lib.rt:48:5
 loop-less : tie.Need-loop-less Inv-loop μ-loop
 loop-less c = omega (arith, stepped (c .before .before .before .before))
 
--- src/lib.rt:48:5
 loop-again : tie.Need-loop-again Inv-loop μ-loop
 loop-again c =
     let after = c .before .before .before .before in
@@ -107,11 +93,9 @@ loop-again c =
     (turn (a .terminator) (a .at) (a .offset) (a .number) (a .part .now) (a .table .now) (l .loop .table) (l .loop .i) (l .loop .k) (l .loop .inv)
     (omega arith) (s .pre .room))
 
--- src/lib.rt:35:1
 same-length : tie.Need-same-length Inv-loop μ-loop
 same-length c = c .before .loop .inv .same
 
--- src/lib.rt:35:1
 returns : tie.Need-returns Inv-loop μ-loop
 returns c =
     let l = c .before in

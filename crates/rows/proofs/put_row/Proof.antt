@@ -13,55 +13,42 @@ use Rattle.rows.proofs.put_row.Tie as tie
 use Rattle.rows.proofs.put_row.Reads as reads
 use Rattle.rows.proofs.put_row.Lts as lts
 
--- src/lib.rt:28:5
 mul-table : tie.Need-mul-table
 mul-table c = search needs
 
--- src/lib.rt:28:5
 slice-write-table : tie.Need-slice-write-table
 slice-write-table c = search needs
 
--- src/lib.rt:29:11
 add-table : tie.Need-add-table
 add-table c = search needs
 
--- src/lib.rt:29:5
 mul-table-2 : tie.Need-mul-table-2
 mul-table-2 c = search needs
 
--- src/lib.rt:29:5
 slice-write-table-2 : tie.Need-slice-write-table-2
 slice-write-table-2 c = simp length-set (omega arith)
 
--- src/lib.rt:30:11
 add-table-2 : tie.Need-add-table-2
 add-table-2 c = search needs
 
--- src/lib.rt:30:5
 mul-table-3 : tie.Need-mul-table-3
 mul-table-3 c = search needs
 
--- src/lib.rt:30:5
 slice-write-table-3 : tie.Need-slice-write-table-3
 slice-write-table-3 c = simp length-set (omega arith)
 
--- src/lib.rt:31:11
 add-table-3 : tie.Need-add-table-3
 add-table-3 c = search needs
 
--- src/lib.rt:31:5
 mul-table-4 : tie.Need-mul-table-4
 mul-table-4 c = search needs
 
--- src/lib.rt:31:5
 slice-write-table-4 : tie.Need-slice-write-table-4
 slice-write-table-4 c = simp length-set (omega arith)
 
--- src/lib.rt:24:1
 same-length : tie.Need-same-length
 same-length c = search needs
 
--- src/lib.rt:24:1
 returns : tie.Need-returns
 unfolding putAt
 returns c =

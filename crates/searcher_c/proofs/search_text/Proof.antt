@@ -3,7 +3,7 @@ use native.Mathlib.Omega.{arith}
 use borrow.Author.Needs.{needs}
 use mathlib.Core.Path.{_≡_, _∙_}
 use Prim.Native.Nat.{_*_, _≤_}
-use lib.ListN.{length, drop, length-drop}
+use lib.ListN.{length, length-drop}
 use Rattle.searcher.specs.Door.{doorAnswered}
 use Rattle.searcher.proofs.Laws.{rows-le}
 use Rattle.searcher_c.proofs.search_text.Statement.{statement}
