@@ -6,13 +6,14 @@ use lib.Dec.{eqb}
 use Rattle.definition.specs.declared.Binary.the-variants.{Ignore}
 use Rattle.definition.specs.declared.Limit.{Limit}
 use Rattle.definition.specs.declared.Settings.{Settings}
+use Rattle.line_words.specs.declared.Number.{Number}
+use Rattle.line_words.specs.Numbers.{decimalOf, isNumber, valueOf, withinOf}
+use Rattle.line_words.specs.Words.{spacesOf, wordOf}
 use Rattle.forms.specs.declared.Asked.{Asked}
 use Rattle.forms.specs.declared.Asked.the-variants.{For, OtherForm}
 use Rattle.forms.specs.declared.Bound.{Bound}
 use Rattle.forms.specs.declared.Bound.the-variants.{Is, NoBound}
-use Rattle.forms.specs.declared.Number.{Number}
-use Rattle.forms.specs.Numbers.{decimalOf, isNumber, limitOf, valueOf, withinOf}
-use Rattle.forms.specs.Words.{spacesOf, wordOf}
+use Rattle.forms.specs.Limits.{limitOf}
 
 -- "newline, no binary, no stop-on-nonmatch"
 unfoldable pub settingsOf : Number → Number → Number → Number → Limit → Settings

@@ -1,5 +1,3 @@
 -- What the written forms mean, on lists of bytes.
-pub mod Words
-pub mod Numbers
+pub mod Limits
 pub mod First
-pub mod Hex

@@ -22,8 +22,8 @@ use Rattle.session.specs.declared.OpenOutcome.{OpenOutcome}
 use Rattle.session.specs.declared.Session.{Session}
 use Rattle.session.specs.Calls.{opened}
 use Rattle.session.proofs.Parts.{part-drop, part-length}
-use Rattle.streams.specs.declared.Pending.{Pending}
-use Rattle.streams.specs.Output.{Tells}
+use Rattle.output.specs.declared.Pending.{Pending}
+use Rattle.output.specs.Output.{Tells}
 use Rattle.search_machine.specs.declared.Seen.{Seen}
 use Rattle.search_machine.specs.declared.Seen.the-variants.{Whole, Unfinished, TooLong}
 use Rattle.search_machine.specs.declared.Search.{Search}

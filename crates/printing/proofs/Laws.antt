@@ -11,9 +11,9 @@ use Rattle.definition.specs.Rows.{rowSize}
 use Rattle.core.specs.Answer.{putRows}
 use Rattle.session.specs.Run.{rowsIn}
 use Rattle.session.proofs.Giving.{rowsIn-put}
-use Rattle.streams.specs.declared.Pending.{Pending}
-use Rattle.streams.specs.Output.{Tells, collected, collectedIn, decimal}
-use Rattle.streams.proofs.Laws.{decimal-length, tells, tells-more, tells-none}
+use Rattle.output.specs.declared.Pending.{Pending}
+use Rattle.output.specs.Output.{Tells, collected, collectedIn, decimal}
+use Rattle.output.proofs.Laws.{decimal-length, tells, tells-more, tells-none}
 use Rattle.printing.specs.Texts.{fourText, newline, refusedText, rowMost, rowText, rowsText, space}
 
 -- # Text behind text

@@ -4,7 +4,7 @@ use mathlib.Core.List.{List, [], _∷_, _++_, flatten, map}
 use Rattle.definition.specs.declared.End.{End}
 use Rattle.definition.specs.declared.Row.{Row}
 use Rattle.session.specs.Run.{rowsIn}
-use Rattle.streams.specs.Output.{decimal}
+use Rattle.output.specs.Output.{decimal}
 
 abbrev pub newline : ℕ
 newline = 10

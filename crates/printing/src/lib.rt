@@ -1,27 +1,27 @@
 // What the programs print: rows, the end record, a refusal. Each is collected behind what is pending.
 use definition::End;
-use streams::Pending;
+use output::Pending;
 ghost use mathlib.Core.List.{_∷_};
 ghost use Prim.Native.Nat.{_*_, _+_, _≤_};
 ghost use lib.ListN.{getD, length};
 ghost use Rattle.definition.specs.Rows.{rowSize};
-ghost use Rattle.streams.specs.Output.{Tells, decimal};
+ghost use Rattle.output.specs.Output.{Tells, decimal};
 ghost use Rattle.printing.specs.Texts.{endText, fourText, lineMost, refusedText, rowMost, rowsText, space};
 
 pub fn refusal(out: &mut [u8], pending: Pending, number: u64) -> Pending
     requires { ⌜ pending .length + lineMost ≤ length (now out) ⌝ }
     ensures { λ r. ⌜ Tells pending (now (out .entry)) (refusedText number) r (now (out .exit)) ⌝ }
 {
-    let named = streams::put(out, pending, b"refused ");
-    let numbered = streams::put_number(out, named, number);
-    streams::put(out, numbered, b"\n")
+    let named = output::put(out, pending, b"refused ");
+    let numbered = output::put_number(out, named, number);
+    output::put(out, numbered, b"\n")
 }
 
 pub fn end(out: &mut [u8], pending: Pending, end: End) -> Pending
     requires { ⌜ pending .length + lineMost ≤ length (now out) ⌝ }
     ensures { λ r. ⌜ Tells pending (now (out .entry)) (endText end) r (now (out .exit)) ⌝ }
 {
-    let named = streams::put(out, pending, b"end ");
+    let named = output::put(out, pending, b"end ");
     numbers(out, named, end.bytes, end.lines, end.matches, end.cause)
 }
 
@@ -59,11 +59,11 @@ fn numbers(out: &mut [u8], pending: Pending, a: u64, b: u64, c: u64, d: u64) -> 
     requires { ⌜ pending .length + rowMost ≤ length (now out) ⌝ }
     ensures { λ r. ⌜ Tells pending (now (out .entry)) (fourText a b c d) r (now (out .exit)) ⌝ }
 {
-    let first = streams::put_number(out, pending, a);
+    let first = output::put_number(out, pending, a);
     let second = another(out, first, b);
     let third = another(out, second, c);
     let fourth = another(out, third, d);
-    streams::put(out, fourth, b"\n")
+    output::put(out, fourth, b"\n")
 }
 
 // A space, then a number.
@@ -71,6 +71,6 @@ fn another(out: &mut [u8], pending: Pending, n: u64) -> Pending
     requires { ⌜ pending .length + 21 ≤ length (now out) ⌝ }
     ensures { λ r. ⌜ Tells pending (now (out .entry)) (space ∷ decimal n) r (now (out .exit)) ⌝ }
 {
-    let spaced = streams::put(out, pending, b" ");
-    streams::put_number(out, spaced, n)
+    let spaced = output::put(out, pending, b" ");
+    output::put_number(out, spaced, n)
 }

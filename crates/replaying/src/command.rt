@@ -20,11 +20,11 @@
 use crate::words;
 use crate::words::Command;
 use forms::Asked;
-use forms::Decoded;
-use forms::Number;
+use hex::Decoded;
+use line_words::Number;
+use output::Pending;
 use searcher::Searcher;
 use session::Waiting;
-use streams::Pending;
 ghost use Prim.Native.Nat.{_+_, _≤_};
 ghost use Rattle.definition.specs.Rows.{rowSize};
 ghost use lib.ListN.{length};
@@ -52,7 +52,7 @@ pub fn start() -> Script {
         lent: 0,
         lines: 0,
         over: false,
-        pending: streams::nothing_pending(),
+        pending: output::nothing_pending(),
     }
 }
 
@@ -105,7 +105,7 @@ pub fn flushed(state: Script, out: &[u8]) -> Script {
     let pending = state.pending;
     let length = within(pending.length, out);
     let written = streams::write(&out[..length]);
-    let mut next = with_pending(state, streams::nothing_pending());
+    let mut next = with_pending(state, output::nothing_pending());
     next.over = state.over | pending.lost | !written;
     next
 }
@@ -126,7 +126,7 @@ fn open(state: Script, line: &[u8], room: &[u8], out: &mut [u8]) -> Script {
     let Asked::For(settings) = words::settings_of(line) else {
         return bad(state, out);
     };
-    let Number::Value(length) = forms::number_at(line, 9) else {
+    let Number::Value(length) = line_words::number_at(line, 9) else {
         return bad(state, out);
     };
     let opened = Searcher::open(settings, length as usize);
@@ -136,7 +136,7 @@ fn open(state: Script, line: &[u8], room: &[u8], out: &mut [u8]) -> Script {
 }
 
 fn offer(state: Script, line: &[u8], room: &mut [u8], bytes: &mut [u8], out: &mut [u8]) -> Script {
-    let Decoded::Bytes(count) = forms::hex(forms::word(line, 1), bytes) else {
+    let Decoded::Bytes(count) = hex::read(line_words::word(line, 1), bytes) else {
         return bad(state, out);
     };
     let s = state.searcher;
@@ -166,12 +166,12 @@ fn show_line(state: Script, room: &[u8], out: &mut [u8]) -> Script {
 }
 
 fn answer(state: Script, line: &[u8], room: &[u8], table: &mut [u64], out: &mut [u8]) -> Script {
-    let hit = forms::number_at(line, 1);
-    let Number::Value(size) = forms::number_at(line, 2) else {
+    let hit = line_words::number_at(line, 1);
+    let Number::Value(size) = line_words::number_at(line, 2) else {
         return bad(state, out);
     };
     let numbers = size as usize;
-    if !forms::is_within(hit, 1) {
+    if !line_words::is_within(hit, 1) {
         return bad(state, out);
     }
     if table.len() < numbers {
@@ -179,7 +179,11 @@ fn answer(state: Script, line: &[u8], room: &[u8], table: &mut [u64], out: &mut 
     }
     let s = state.searcher;
     let lent = within(state.lent, room);
-    let answered = s.answer(&room[..lent], &mut table[..numbers], forms::value(hit) == 1);
+    let answered = s.answer(
+        &room[..lent],
+        &mut table[..numbers],
+        line_words::value(hit) == 1,
+    );
     let next = with_searcher(state, answered.searcher);
     let told = said_number(next, out, b"answer ", answered.refusal);
     let counted = said_number(told, out, b" ", answered.rows as u64);
@@ -218,10 +222,10 @@ fn said_four(state: Script, out: &mut [u8], a: u64, b: u64, c: u64, d: u64) -> S
 }
 
 fn show_table(state: Script, line: &[u8], table: &[u64], out: &mut [u8]) -> Script {
-    let Number::Value(first) = forms::number_at(line, 1) else {
+    let Number::Value(first) = line_words::number_at(line, 1) else {
         return bad(state, out);
     };
-    let Number::Value(last) = forms::number_at(line, 2) else {
+    let Number::Value(last) = line_words::number_at(line, 2) else {
         return bad(state, out);
     };
     let from = first as usize;
@@ -278,10 +282,10 @@ fn show_window(state: Script, room: &[u8], out: &mut [u8]) -> Script {
 }
 
 fn poke(state: Script, line: &[u8], room: &mut [u8], bytes: &mut [u8], out: &mut [u8]) -> Script {
-    let Number::Value(place) = forms::number_at(line, 1) else {
+    let Number::Value(place) = line_words::number_at(line, 1) else {
         return bad(state, out);
     };
-    let Decoded::Bytes(count) = forms::hex(forms::word(line, 2), bytes) else {
+    let Decoded::Bytes(count) = hex::read(line_words::word(line, 2), bytes) else {
         return bad(state, out);
     };
     let at = place as usize;
@@ -297,7 +301,7 @@ fn poke(state: Script, line: &[u8], room: &mut [u8], bytes: &mut [u8], out: &mut
 }
 
 fn lend(state: Script, line: &[u8], room: &[u8], out: &mut [u8]) -> Script {
-    let Number::Value(length) = forms::number_at(line, 1) else {
+    let Number::Value(length) = line_words::number_at(line, 1) else {
         return bad(state, out);
     };
     let lent = length as usize;
@@ -322,17 +326,17 @@ fn with_pending(state: Script, pending: Pending) -> Script {
 }
 
 fn said(state: Script, out: &mut [u8], text: &[u8]) -> Script {
-    with_pending(state, streams::put(out, state.pending, text))
+    with_pending(state, output::put(out, state.pending, text))
 }
 
 fn said_number(state: Script, out: &mut [u8], text: &[u8], number: u64) -> Script {
-    let told = streams::put(out, state.pending, text);
-    with_pending(state, streams::put_number(out, told, number))
+    let told = output::put(out, state.pending, text);
+    with_pending(state, output::put_number(out, told, number))
 }
 
 fn said_bytes(state: Script, out: &mut [u8], text: &[u8], bytes: &[u8]) -> Script {
-    let told = streams::put(out, state.pending, text);
-    ended_line(with_pending(state, streams::put_hex(out, told, bytes)), out)
+    let told = output::put(out, state.pending, text);
+    ended_line(with_pending(state, hex::put(out, told, bytes)), out)
 }
 
 fn ended_line(state: Script, out: &mut [u8]) -> Script {

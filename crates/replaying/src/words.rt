@@ -3,7 +3,7 @@ use definition::Binary;
 use definition::Settings;
 use forms::Asked;
 use forms::Bound;
-use forms::Number;
+use line_words::Number;
 
 pub enum Command {
     Open,
@@ -27,8 +27,8 @@ enum Marks {
 
 // A command is told by its name and the number of its words.
 pub fn command_of(line: &[u8]) -> Command {
-    let name = forms::word(line, 0);
-    match forms::spaces(line) {
+    let name = line_words::word(line, 0);
+    match line_words::spaces(line) {
         0 => of_one_word(name),
         1 => of_two_words(name),
         2 => of_three_words(name),
@@ -102,32 +102,32 @@ fn is(word: &[u8], name: &[u8]) -> bool {
 
 // The settings that the words of an opening ask for.
 pub fn settings_of(line: &[u8]) -> Asked {
-    let before = forms::number_at(line, 1);
-    let after = forms::number_at(line, 2);
-    let invert = forms::number_at(line, 3);
-    let pass = forms::number_at(line, 4);
-    let stop = forms::number_at(line, 5);
-    let terminator = forms::number_at(line, 7);
-    let numbers = forms::is_number(before)
-        & forms::is_number(after)
-        & forms::is_within(terminator, 255);
+    let before = line_words::number_at(line, 1);
+    let after = line_words::number_at(line, 2);
+    let invert = line_words::number_at(line, 3);
+    let pass = line_words::number_at(line, 4);
+    let stop = line_words::number_at(line, 5);
+    let terminator = line_words::number_at(line, 7);
+    let numbers = line_words::is_number(before)
+        & line_words::is_number(after)
+        & line_words::is_within(terminator, 255);
     let flags = is_flag(invert) & is_flag(pass) & is_flag(stop);
     if !(numbers & flags) {
         return Asked::OtherForm;
     }
-    let Bound::Is(limit) = forms::limit(forms::word(line, 6)) else {
+    let Bound::Is(limit) = forms::limit(line_words::word(line, 6)) else {
         return Asked::OtherForm;
     };
-    let Marks::Are(binary) = binary_of(forms::word(line, 8)) else {
+    let Marks::Are(binary) = binary_of(line_words::word(line, 8)) else {
         return Asked::OtherForm;
     };
     let plain = Settings::plain(byte(terminator));
     Asked::For(Settings {
-        before: forms::value(before) as usize,
-        after: forms::value(after) as usize,
-        invert: forms::value(invert) == 1,
-        passthru: forms::value(pass) == 1,
-        stop: forms::value(stop) == 1,
+        before: line_words::value(before) as usize,
+        after: line_words::value(after) as usize,
+        invert: line_words::value(invert) == 1,
+        passthru: line_words::value(pass) == 1,
+        stop: line_words::value(stop) == 1,
         limit: limit,
         binary: binary,
         ..plain
@@ -135,24 +135,24 @@ pub fn settings_of(line: &[u8]) -> Asked {
 }
 
 fn is_flag(number: Number) -> bool {
-    forms::is_within(number, 1)
+    line_words::is_within(number, 1)
 }
 
 fn byte(number: Number) -> u8 {
-    let n = forms::value(number);
+    let n = line_words::value(number);
     if n < 256 { n as u8 } else { 0 }
 }
 
 // `-`, or `q` or `c` and a byte.
 fn binary_of(word: &[u8]) -> Marks {
-    if forms::is_dash(word) {
+    if line_words::is_dash(word) {
         return Marks::Are(Binary::Ignore);
     }
     if word.len() == 0 {
         return Marks::NoMarks;
     }
-    let number = forms::decimal(&word[1..]);
-    if !forms::is_within(number, 255) {
+    let number = line_words::decimal(&word[1..]);
+    if !line_words::is_within(number, 255) {
         return Marks::NoMarks;
     }
     match word[0] {

@@ -7,8 +7,9 @@ use Rattle.definition.specs.Definition.{selected, fate, goingNext, lastOf, kept
 use Rattle.definition.specs.State.{nextLine, breaks, stateNext, fateOf}
 use Rattle.definition.specs.Text.{upTo, firstPlace, replaced, text, onto, lines, handed}
 use Rattle.forms.specs.First.{areRight, askedOf, settingsOf}
-use Rattle.forms.specs.Numbers.{areDigits, behind, decimalOf, digitBehind, digitsBehind, isDash, isDigit, limitOf}
-use Rattle.forms.specs.Words.{spacesOf, wordOf}
+use Rattle.forms.specs.Limits.{limitOf}
+use Rattle.line_words.specs.Numbers.{areDigits, behind, decimalOf, digitBehind, digitsBehind, isDash, isDigit}
+use Rattle.line_words.specs.Words.{spacesOf, wordOf}
 use Rattle.literal.specs.Literal.{stands, startsWith}
 use Rattle.machine.specs.Machine.{run}
 use Rattle.machine.specs.Program.{fed, fedEnd, fedWindow, feeds, turns}
@@ -17,7 +18,7 @@ use Rattle.core.specs.Walk.{remainsAhead, shownAhead, waitsAhead, walkAgrees, w
 use Rattle.session.specs.Calls.{answerRows, answerSession, answering, beforeQuit, belowOne, fitting, idle, offered, offeredWindow, offering, opened, opening, placesNext, quitFront, recordOf, recorded, recordedPlace, recording, remains, shownLine, stored, storedWindow, taking, told, toldSession, waiting}
 use Rattle.session.specs.Held.{unanswered, waits, lineLength, sinceLines, keptBytes, heldBytes, keptFrom, shown}
 use Rattle.session.specs.Sound.{agrees, placesAgree, placesTests, sound, takenBytes}
-use Rattle.streams.specs.Output.{decimal, spelled}
+use Rattle.output.specs.Output.{decimal, spelled}
 use Rattle.search_machine.specs.Examples.{Holds, Runs}
 use Rattle.search_machine.specs.Head.{lookedAt}
 use Rattle.search_machine.specs.Search.{hearsOf, turnOf}

@@ -9,8 +9,8 @@ use Rattle.definition.specs.Text.{part, putAt}
 use Rattle.line_buffer.specs.Buffer.{rolled}
 use Rattle.session.specs.declared.Session.{Session}
 use Rattle.session.proofs.Parts.{part-drop, part-length}
-use Rattle.streams.specs.declared.Pending.{Pending}
-use Rattle.streams.specs.Output.{Tells}
+use Rattle.output.specs.declared.Pending.{Pending}
+use Rattle.output.specs.Output.{Tells}
 use Rattle.search_machine.specs.declared.Stage.{Stage}
 use Rattle.search_machine.specs.Search.{stateAt}
 

@@ -21,7 +21,7 @@ use Rattle.machine.proofs.Runs.{run-ends, run-goes, run-hears, run-waits}
 use Rattle.session.specs.declared.Session.{Session}
 use Rattle.session.specs.Calls.{opened}
 use Rattle.session.specs.Sound.{closed}
-use Rattle.streams.specs.Output.{failedRead}
+use Rattle.streams.specs.Moves.{failedRead}
 use Rattle.search_machine.specs.declared.Seen.{Seen}
 use Rattle.search_machine.specs.declared.Seen.the-variants.{Whole, Unfinished, TooLong}
 use Rattle.search_machine.specs.declared.Stage.the-variants.{First, Second, Text}

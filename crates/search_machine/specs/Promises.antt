@@ -13,7 +13,7 @@ use Rattle.forms.specs.First.{askedOf}
 use Rattle.machine.specs.Machine.{Read, run}
 use Rattle.machine.specs.Promises.{Ending, Prints, broken, bytesOf, endingOf, unended, whole}
 use Rattle.session.specs.Calls.{opened}
-use Rattle.streams.specs.Output.{failedRead}
+use Rattle.streams.specs.Moves.{failedRead}
 use Rattle.search_machine.specs.declared.Seen.{Seen}
 use Rattle.search_machine.specs.declared.Seen.the-variants.{Whole, Unfinished, TooLong}
 use Rattle.search_machine.specs.Head.{lookedAt}

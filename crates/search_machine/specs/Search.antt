@@ -13,7 +13,7 @@ use Rattle.machine.specs.Program.{Program, Standing, hears, turns}
 use Rattle.session.specs.declared.Session.{Session}
 use Rattle.session.specs.Calls.{opened}
 use Rattle.session.specs.Sound.{closed}
-use Rattle.streams.specs.Output.{failedRead}
+use Rattle.streams.specs.Moves.{failedRead}
 use Rattle.search_machine.specs.declared.Seen.{Seen}
 use Rattle.search_machine.specs.declared.Seen.the-variants.{Whole, Unfinished, TooLong}
 use Rattle.search_machine.specs.declared.Stage.{Stage}

@@ -14,8 +14,8 @@ use Rattle.session.specs.declared.OpenOutcome.{OpenOutcome}
 use Rattle.session.specs.Sound.{closed}
 use Rattle.streams.specs.declared.Moved.{Moved}
 use Rattle.streams.specs.declared.Moved.the-variants.{Bytes, Nothing, Interrupted, Failed}
-use Rattle.streams.specs.declared.Pending.{Pending}
-use Rattle.streams.specs.Output.{Tells, none}
+use Rattle.output.specs.declared.Pending.{Pending}
+use Rattle.output.specs.Output.{Tells, none}
 use Rattle.search_machine.specs.declared.Phase.{Phase}
 use Rattle.search_machine.specs.declared.Phase.the-variants.{Going, Wants, Over}
 use Rattle.search_machine.specs.declared.Search.{Search}

@@ -95,7 +95,7 @@ fn start() -> Search
         },
         from: 0,
         to: 0,
-        pending: streams::nothing_pending(),
+        pending: output::nothing_pending(),
     }
 }
 
@@ -104,7 +104,7 @@ fn written(s: Search) -> Search
     ensures { λ r. ⌜ r ≡ writtenOut s ⌝ }
 {
     let mut next = s;
-    next.pending = streams::nothing_pending();
+    next.pending = output::nothing_pending();
     next
 }
 

@@ -1,2 +1,2 @@
--- Laws of output.
+-- Laws of what a call did.
 pub mod Laws

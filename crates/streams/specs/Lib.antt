@@ -1,3 +1,2 @@
--- What a call of read or write did, and what output does to its buffer.
+-- What a call of read or write did.
 pub mod Moves
-pub mod Output

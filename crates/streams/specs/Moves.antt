@@ -2,7 +2,7 @@
 -- by: a failure is never the end, a signal is neither, and a part is not the whole.
 use Prim.Native.Nat.{ℕ, suc, zero, _-_, _≤_, _<_, min}
 use mathlib.Core.Bool.{Bool, false, cond}
-use mathlib.Core.List.{List}
+use mathlib.Core.List.{List, [], _∷_}
 use lib.Dec.{eqb, ltb}
 use lib.IntN.{ℤ, pos, negsuc}
 use lib.ListN.{length}
@@ -38,3 +38,7 @@ MovedWithin (Bytes n) buffer = (0 < n) × (n ≤ length buffer)
 MovedWithin Nothing buffer = Unit
 MovedWithin Interrupted buffer = Unit
 MovedWithin (Failed e) buffer = Unit
+
+-- `failed read` and a newline
+abbrev pub failedRead : List ℕ
+failedRead = 102 ∷ 97 ∷ 105 ∷ 108 ∷ 101 ∷ 100 ∷ 32 ∷ 114 ∷ 101 ∷ 97 ∷ 100 ∷ 10 ∷ []

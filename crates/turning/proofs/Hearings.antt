@@ -19,8 +19,9 @@ use Rattle.session.specs.Calls.{told}
 use Rattle.session.proofs.Parts.{part-split}
 use Rattle.streams.specs.declared.Moved.{Moved}
 use Rattle.streams.specs.declared.Moved.the-variants.{Bytes, Nothing, Interrupted, Failed}
-use Rattle.streams.specs.declared.Pending.{Pending}
-use Rattle.streams.specs.Output.{Tells, failedRead}
+use Rattle.output.specs.declared.Pending.{Pending}
+use Rattle.output.specs.Output.{Tells}
+use Rattle.streams.specs.Moves.{failedRead}
 use Rattle.search_machine.specs.declared.Search.{Search}
 use Rattle.search_machine.specs.declared.Stage.{Stage}
 use Rattle.search_machine.specs.declared.Stage.the-variants.{First, Second, Text}

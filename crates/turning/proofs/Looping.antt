@@ -21,8 +21,8 @@ use Rattle.searcher.specs.declared.Answered.{Answered}
 use Rattle.searcher.specs.declared.Searcher.{Searcher}
 use Rattle.session.specs.declared.Session.{Session}
 use Rattle.session.proofs.Parts.{part-drop, part-length}
-use Rattle.streams.specs.declared.Pending.{Pending}
-use Rattle.streams.specs.Output.{Tells}
+use Rattle.output.specs.declared.Pending.{Pending}
+use Rattle.output.specs.Output.{Tells}
 use Rattle.search_machine.specs.declared.Search.{Search}
 use Rattle.search_machine.specs.declared.Stage.{Stage}
 use Rattle.search_machine.specs.Head.{longest}

@@ -1,9 +1,9 @@
 // The lines of the text: each is shown, matched, answered, and its rows printed; where none waits the driver is fed.
 use machine::Next;
+use output::Pending;
 use search_machine::Phase;
 use search_machine::Search;
 use searcher::Searcher;
-use streams::Pending;
 ghost use mathlib.Core.Path.{_≡_};
 ghost use mathlib.Core.List.{List};
 ghost use Prim.Native.Nat.{ℕ, _+_, _≤_};

@@ -1,6 +1,6 @@
 -- A dash, or what the number says.
 use mathlib.Core.Path.{sym, _∙_}
-use Rattle.forms.specs.Numbers.{limitOf}
+use Rattle.forms.specs.Limits.{limitOf}
 use borrow.Author.Needs.{needs}
 use Rattle.forms.proofs.limit.Statement.{statement}
 use Rattle.forms.proofs.limit.Tie as tie

@@ -1,7 +1,7 @@
 -- A space has room, and behind it the 20 digits that a number of 64 bits has at most.
 use native.Mathlib.Omega.{arith}
-use Rattle.streams.specs.Output.{decimal}
-use Rattle.streams.proofs.Laws.{decimal-length, tells-more}
+use Rattle.output.specs.Output.{decimal}
+use Rattle.output.proofs.Laws.{decimal-length, tells-more}
 use Rattle.printing.proofs.Laws.{put-tells}
 use borrow.Author.Needs.{needs}
 use Rattle.printing.proofs.another.Statement.{statement}

@@ -1,6 +1,6 @@
 -- The word and its space, then the four numbers.
 use native.Mathlib.Omega.{arith}
-use Rattle.streams.proofs.Laws.{tells-more}
+use Rattle.output.proofs.Laws.{tells-more}
 use Rattle.printing.proofs.Laws.{put-tells}
 use borrow.Author.Needs.{needs}
 use Rattle.printing.proofs.end.Statement.{statement}

@@ -1,8 +1,8 @@
 -- Four numbers of 20 digits at most have room, with three spaces and a newline.
 use mathlib.Core.List.{[], _∷_}
 use native.Mathlib.Omega.{arith}
-use Rattle.streams.specs.Output.{decimal}
-use Rattle.streams.proofs.Laws.{decimal-length, tells-more}
+use Rattle.output.specs.Output.{decimal}
+use Rattle.output.proofs.Laws.{decimal-length, tells-more}
 use Rattle.printing.specs.Texts.{newline}
 use Rattle.printing.proofs.Laws.{four-parts, put-tells, tells-same}
 use borrow.Author.Needs.{needs}

@@ -1,8 +1,8 @@
 -- The word and its space, the number, a newline.
 use mathlib.Core.List.{[], _∷_}
 use native.Mathlib.Omega.{arith}
-use Rattle.streams.specs.Output.{decimal}
-use Rattle.streams.proofs.Laws.{decimal-length, tells-more}
+use Rattle.output.specs.Output.{decimal}
+use Rattle.output.proofs.Laws.{decimal-length, tells-more}
 use Rattle.printing.specs.Texts.{newline}
 use Rattle.printing.proofs.Laws.{put-tells, refused-parts, tells-same}
 use borrow.Author.Needs.{needs}

@@ -1,6 +1,6 @@
 -- Each thing that a read can give is what the machine hears.
 use native.Mathlib.Omega.{arith}
-use Rattle.streams.specs.Output.{failedRead}
+use Rattle.streams.specs.Moves.{failedRead}
 use Rattle.turning.proofs.Hearings.{bytes-heard, end-heard, failure-heard, fits-heard, signal-heard}
 use Rattle.printing.proofs.Laws.{put-tells}
 use borrow.Author.Needs.{needs}

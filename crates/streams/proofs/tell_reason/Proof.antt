@@ -1,6 +1,6 @@
 -- What failed and the number have room.
 use native.Mathlib.Omega.{arith}
-use Rattle.streams.proofs.Laws.{few-digits}
+use Rattle.output.proofs.Laws.{few-digits}
 use Prim.Native.Nat.{_≤_}
 use lib.ListN.{length, length-take}
 use borrow.Author.Needs.{needs}

@@ -8,8 +8,8 @@ use Rattle.replaying.proofs.command.offer.Tie as tie
 word-requires : tie.Need-word-requires
 word-requires c κs = search needs
 
-hex-requires : tie.Need-hex-requires
-hex-requires c κs = search needs
+read-requires : tie.Need-read-requires
+read-requires c κs = search needs
 
 enum-known-count : tie.Need-enum-known-count
 enum-known-count c = search needs
@@ -74,7 +74,7 @@ same-length-3 c =
     omega (arith, c .before .before .before .before .before .before .before .before .before .before .before .before .before .before .before .before .before .offer .kept .1 .0, c .before .before .before .before .before .before .before .before .before .before .before .before .before .before .before .before .before .before .before .before .before .before .within .ensures .0, length-append (c .before .before .before .before .before .before .before .before .before .before .before .before .before .before .before .before .before .offer .last .1 .0) (drop (c .before .before .before .before .before .before .before .before .before .before .before .before .before .before .before .before .before .before .before .before .before .before .within .result) room), length-drop (c .before .before .before .before .before .before .before .before .before .before .before .before .before .before .before .before .before .before .before .before .before .before .within .result) room)
 
 same-length-4 : tie.Need-same-length-4
-same-length-4 c = c .before .before .before .before .before .before .before .before .before .before .before .before .before .before .before .before .before .before .before .before .before .before .before .before .before .before .before .before .before .before .hex .kept .1 .0
+same-length-4 c = c .before .before .before .before .before .before .before .before .before .before .before .before .before .before .before .before .before .before .before .before .before .before .before .before .before .before .before .before .before .before .read .kept .1 .0
 
 same-length-5 : tie.Need-same-length-5
 same-length-5 c = search needs
@@ -87,7 +87,7 @@ offer-spec =
     tie.close
     (tie.spec
     word-requires
-    hex-requires
+    read-requires
     enum-known-count
     enum-told
     bad-requires

@@ -25,8 +25,8 @@ returns c = search needs
 word-requires : tie.Need-word-requires
 word-requires c κs = search needs
 
-hex-requires : tie.Need-hex-requires
-hex-requires c κs = search needs
+read-requires : tie.Need-read-requires
+read-requires c κs = search needs
 
 enum-known-count : tie.Need-enum-known-count
 enum-known-count c = search needs
@@ -107,7 +107,7 @@ same-length-8 : tie.Need-same-length-8
 same-length-8 c = search needs
 
 same-length-9 : tie.Need-same-length-9
-same-length-9 c = c .before .before .before .before .before .before .before .before .before .before .before .before .before .before .before .before .before .before .before .before .before .before .before .hex .kept .1 .0
+same-length-9 c = c .before .before .before .before .before .before .before .before .before .before .before .before .before .before .before .before .before .before .before .before .before .before .before .read .kept .1 .0
 
 same-length-10 : tie.Need-same-length-10
 same-length-10 c = search needs
@@ -126,7 +126,7 @@ poke-spec =
     same-length
     returns
     word-requires
-    hex-requires
+    read-requires
     enum-known-count
     enum-told-2
     bad-requires-2

@@ -1,2 +1,0 @@
--- Laws of the written forms.
-pub mod Laws

@@ -1,0 +1,2 @@
+-- Laws of hexadecimal digits.
+pub mod Laws

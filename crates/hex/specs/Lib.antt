@@ -1,0 +1,2 @@
+-- Bytes as hexadecimal digits.
+pub mod Hex

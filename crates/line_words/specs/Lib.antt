@@ -1,0 +1,3 @@
+-- What words and numbers mean, on lists of bytes.
+pub mod Words
+pub mod Numbers

@@ -1,0 +1,2 @@
+-- Laws of output.
+pub mod Laws

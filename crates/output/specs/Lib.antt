@@ -1,0 +1,2 @@
+-- What output does to its buffer.
+pub mod Output
