@@ -1,13 +1,10 @@
 -- A break at the front, or nothing.
 use native.Mathlib.Omega.{arith}
 use borrow.Author.Tests.{le-ltb, lt-ltb}
-use Rattle.giving.specs.Fated.{breakTable}
+use Rattle.match_rows.specs.MatchTable.{breakTable}
 use borrow.Author.Needs.{needs}
-use Rattle.giving.proofs.put_break.Statement.{statement}
-use Rattle.giving.proofs.put_break.Tie as tie
-use Rattle.giving.proofs.put_break.Reads as reads
-use Rattle.giving.proofs.put_break.Lts as lts
-use Rattle.rows.proofs.put_row.Reads as put-row-reads
+use Rattle.match_rows.proofs.put_break.Statement.{statement}
+use Rattle.match_rows.proofs.put_break.Tie as tie
 
 put-row-requires : tie.Need-put-row-requires
 put-row-requires c κs = search needs

@@ -1,10 +1,7 @@
 -- Only Convert replaces bytes.
 use borrow.Author.Needs.{needs}
-use Rattle.offering.proofs.replaced_in.Statement.{statement}
-use Rattle.offering.proofs.replaced_in.Tie as tie
-use Rattle.offering.proofs.replaced_in.Reads as reads
-use Rattle.offering.proofs.replaced_in.Lts as lts
-use Rattle.offering.proofs.converted_place.Reads as converted-place-reads
+use Rattle.reaching.proofs.replaced_in.Statement.{statement}
+use Rattle.reaching.proofs.replaced_in.Tie as tie
 
 enum-told : tie.Need-enum-told
 enum-told c = search needs

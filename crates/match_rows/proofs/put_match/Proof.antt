@@ -2,17 +2,11 @@
 use Prim.Native.Nat.{_≤_}
 use native.Mathlib.Omega.{arith}
 use lib.ListN.{length}
-use Rattle.giving.specs.Fated.{matchTable}
-use Rattle.giving.proofs.Laws.{placing-fits, placing-from}
+use Rattle.match_rows.specs.MatchTable.{matchTable}
+use Rattle.match_rows.proofs.Laws.{placing-fits, placing-from}
 use borrow.Author.Needs.{needs}
-use Rattle.giving.proofs.put_match.Statement.{statement}
-use Rattle.giving.proofs.put_match.Tie as tie
-use Rattle.giving.proofs.put_match.Reads as reads
-use Rattle.giving.proofs.put_match.Lts as lts
-use Rattle.giving.proofs.line_row.Reads as line-row-reads
-use Rattle.giving.proofs.put_break.Reads as put-break-reads
-use Rattle.rows.proofs.put_before.Reads as put-before-reads
-use Rattle.rows.proofs.put_row.Reads as put-row-reads
+use Rattle.match_rows.proofs.put_match.Statement.{statement}
+use Rattle.match_rows.proofs.put_match.Tie as tie
 
 from-inside : (c : tie.Start) → c .args .before .from ≤ length (c .args .since .now)
 from-inside c = placing-from (c .args .walk) (c .args .since .now) (c .args .length) (c .args .before) (c .args .gap) (c .args .table .now) (c .pre)

@@ -1,11 +1,9 @@
 -- The line's place, length and number.
 use mathlib.Core.Path.{refl}
-use Rattle.giving.specs.Fated.{lineRow}
+use Rattle.match_rows.specs.MatchTable.{lineRow}
 use borrow.Author.Needs.{needs}
-use Rattle.giving.proofs.line_row.Statement.{statement}
-use Rattle.giving.proofs.line_row.Tie as tie
-use Rattle.giving.proofs.line_row.Reads as reads
-use Rattle.giving.proofs.line_row.Lts as lts
+use Rattle.match_rows.proofs.line_row.Statement.{statement}
+use Rattle.match_rows.proofs.line_row.Tie as tie
 
 add-t5 : tie.Need-add-t5
 add-t5 c = search needs

@@ -1,12 +1,9 @@
 -- One break, or none.
 use mathlib.Core.Path.{sym}
-use Rattle.giving.specs.Fated.{gapBefore}
+use Rattle.match_rows.specs.MatchTable.{gapBefore}
 use borrow.Author.Needs.{needs}
-use Rattle.giving.proofs.gap_before.Statement.{statement}
-use Rattle.giving.proofs.gap_before.Tie as tie
-use Rattle.giving.proofs.gap_before.Reads as reads
-use Rattle.giving.proofs.gap_before.Lts as lts
-use Rattle.agreeing.proofs.has_context.Reads as has-context-reads
+use Rattle.match_rows.proofs.gap_before.Statement.{statement}
+use Rattle.match_rows.proofs.gap_before.Tie as tie
 
 has-context-requires : tie.Need-has-context-requires
 has-context-requires c κs = search needs

@@ -1,10 +1,7 @@
 -- The first stays the first.
 use borrow.Author.Needs.{needs}
-use Rattle.offering.proofs.first_replaced.Statement.{statement}
-use Rattle.offering.proofs.first_replaced.Tie as tie
-use Rattle.offering.proofs.first_replaced.Reads as reads
-use Rattle.offering.proofs.first_replaced.Lts as lts
-use Rattle.offering.proofs.replaced_in.Reads as replaced-in-reads
+use Rattle.reaching.proofs.first_replaced.Statement.{statement}
+use Rattle.reaching.proofs.first_replaced.Tie as tie
 
 enum-known-place : tie.Need-enum-known-place
 enum-known-place c = search needs

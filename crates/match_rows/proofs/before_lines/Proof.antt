@@ -3,15 +3,11 @@ use Prim.Native.Nat.{_≤_}
 use mathlib.Core.Path.{_≡_, _∙_, ap}
 use native.Mathlib.Omega.{arith}
 use lib.ListN.{length}
-use Rattle.giving.specs.Fated.{beforeOf}
-use Rattle.giving.proofs.Laws.{before-lines, from-le, lines-size}
+use Rattle.match_rows.specs.MatchTable.{beforeOf}
+use Rattle.match_rows.proofs.Laws.{before-lines, from-le, lines-size}
 use borrow.Author.Needs.{needs}
-use Rattle.giving.proofs.before_lines.Statement.{statement}
-use Rattle.giving.proofs.before_lines.Tie as tie
-use Rattle.giving.proofs.before_lines.Reads as reads
-use Rattle.giving.proofs.before_lines.Lts as lts
-use Rattle.lines.proofs.count.Reads as count-reads
-use Rattle.lines.proofs.preceding.Reads as preceding-reads
+use Rattle.match_rows.proofs.before_lines.Statement.{statement}
+use Rattle.match_rows.proofs.before_lines.Tie as tie
 
 preceding-requires : tie.Need-preceding-requires
 preceding-requires c κs = search needs

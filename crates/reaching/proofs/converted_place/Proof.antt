@@ -6,11 +6,8 @@ use borrow.Author.Tests.{eq-eqb, ne-eqb, le-ltb, lt-ltb}
 use Rattle.definition.specs.Text.{firstPlace}
 use Rattle.lines.proofs.Laws.{found-at, found-nothing}
 use borrow.Author.Needs.{needs}
-use Rattle.offering.proofs.converted_place.Statement.{statement}
-use Rattle.offering.proofs.converted_place.Tie as tie
-use Rattle.offering.proofs.converted_place.Reads as reads
-use Rattle.offering.proofs.converted_place.Lts as lts
-use Rattle.lines.proofs.find.Reads as find-reads
+use Rattle.reaching.proofs.converted_place.Statement.{statement}
+use Rattle.reaching.proofs.converted_place.Tie as tie
 
 returns : tie.Need-returns
 returns c = rw (eq-eqb (c .before .before .args .byte) (c .before .before .args .terminator) (c .if1 .taken))

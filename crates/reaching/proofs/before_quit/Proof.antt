@@ -1,10 +1,7 @@
 -- By the binary setting: all of the piece, or what comes before the Quit byte.
 use borrow.Author.Needs.{needs}
-use Rattle.offering.proofs.before_quit.Statement.{statement}
-use Rattle.offering.proofs.before_quit.Tie as tie
-use Rattle.offering.proofs.before_quit.Reads as reads
-use Rattle.offering.proofs.before_quit.Lts as lts
-use Rattle.line_buffer.proofs.first_place.Reads as first-place-reads
+use Rattle.reaching.proofs.before_quit.Statement.{statement}
+use Rattle.reaching.proofs.before_quit.Tie as tie
 
 enum-told : tie.Need-enum-told
 enum-told c = search needs

@@ -2,14 +2,10 @@
 use mathlib.Core.Path.{sym}
 use native.Mathlib.Omega.{arith}
 use lib.Seq.{length-take-le}
-use Rattle.offering.proofs.Laws.{reach-is}
+use Rattle.reaching.proofs.Laws.{reach-is}
 use borrow.Author.Needs.{needs}
-use Rattle.offering.proofs.reaches.Statement.{statement}
-use Rattle.offering.proofs.reaches.Tie as tie
-use Rattle.offering.proofs.reaches.Reads as reads
-use Rattle.offering.proofs.reaches.Lts as lts
-use Rattle.offering.proofs.before_quit.Reads as before-quit-reads
-use Rattle.numbers.proofs.least.Reads as least-reads
+use Rattle.reaching.proofs.reaches.Statement.{statement}
+use Rattle.reaching.proofs.reaches.Tie as tie
 
 add-least : tie.Need-add-least
 add-least c = search needs

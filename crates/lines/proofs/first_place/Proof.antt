@@ -1,9 +1,9 @@
 -- The place found, or the length where there is none.
 use mathlib.Core.Path.{sym, _∙_}
 use Rattle.lines.proofs.Laws.{found-at, found-nothing}
 use borrow.Author.Needs.{needs}
-use Rattle.line_buffer.proofs.first_place.Statement.{statement}
-use Rattle.line_buffer.proofs.first_place.Tie as tie
+use Rattle.lines.proofs.first_place.Statement.{statement}
+use Rattle.lines.proofs.first_place.Tie as tie
 
 find-requires : tie.Need-find-requires
 find-requires c κs = search needs
