@@ -40,7 +40,14 @@ pub fn gap_before(walk: Walk, from: usize) -> usize
     }
 }
 
-pub fn put_match(walk: Walk, since: &[u8], table: &mut [u64], length: usize, before: Before, gap: usize)
+pub fn put_match(
+    walk: Walk,
+    since: &[u8],
+    table: &mut [u64],
+    length: usize,
+    before: Before,
+    gap: usize,
+)
     requires { ⌜ Placing walk (now since) length before gap (ListN.length (now table)) ⌝ }
     ensures { λ _. ⌜ now (table .exit) ≡ matchTable walk (now (since .entry)) length before gap (now (table .entry)) ⌝ }
 {

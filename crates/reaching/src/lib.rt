@@ -40,7 +40,13 @@ fn before_quit(binary: Binary, piece: &[u8]) -> usize
 }
 
 // The first replaced byte so far. Once there is one, no piece is looked through for it.
-pub fn first_replaced(place: Place, binary: Binary, terminator: u8, offset: u64, bytes: &[u8]) -> Place
+pub fn first_replaced(
+    place: Place,
+    binary: Binary,
+    terminator: u8,
+    offset: u64,
+    bytes: &[u8],
+) -> Place
     requires { ⌜ offset ≤ maxInput ⌝ }
     ensures { λ r. ⌜ r ≡ firstOf place (replacedIn binary terminator offset (now (bytes .entry))) ⌝ }
 {

@@ -2,10 +2,10 @@
 use Prim.Native.Nat.{_-_}
 use mathlib.Core.Path.{sym, _∙_}
 use native.Mathlib.Omega.{arith}
-use Rattle.literal.proofs.Sweeps.{SweptTo, miss, no-start, swept-start, swept-one, swept-found, swept-none}
-use Rattle.literal.proofs.Stands.{stands-at}
-use Rattle.literal.proofs.each.Statement.{statement}
-use Rattle.literal.proofs.each.Tie as tie
+use Rattle.literal_places.proofs.Sweeps.{SweptTo, miss, no-start, swept-start, swept-one, swept-found, swept-none}
+use Rattle.literal_places.proofs.Stands.{stands-at}
+use Rattle.literal_places.proofs.each.Statement.{statement}
+use Rattle.literal_places.proofs.each.Tie as tie
 
 abbrev Inv-loop : tie.InvT-loop
 Inv-loop line literal first second from to i₀ i = SweptTo literal line from i to

@@ -3,9 +3,9 @@ use Prim.Native.Nat.{_≤_, _-_}
 use mathlib.Core.Path.{_≡_, refl}
 use native.Mathlib.Numerals.{add-one}
 use native.Mathlib.Omega.{arith}
-use Rattle.literal.specs.Sweeps.{anyHit}
-use Rattle.literal.proofs.any_hit.Statement.{statement}
-use Rattle.literal.proofs.any_hit.Tie as tie
+use Rattle.literal_places.specs.Sweeps.{anyHit}
+use Rattle.literal_places.proofs.any_hit.Statement.{statement}
+use Rattle.literal_places.proofs.any_hit.Tie as tie
 
 abbrev Inv-loop : tie.InvT-loop
 Inv-loop line literal first second at n a b p q hit₀ k₀ hit k = (k ≤ n) × (hit ≡ anyHit literal line first second at k)

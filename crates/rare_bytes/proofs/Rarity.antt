@@ -8,7 +8,7 @@ use lib.Dec.{eqb, ltb}
 use lib.ListN.{length, getD, drop}
 use lib.Seq.{drop-cons, drop-length}
 use Rattle.definition.specs.Text.{firstPlace}
-use Rattle.literal.specs.Choice.{common, rarestOf}
+use Rattle.rare_bytes.specs.Choice.{common, rarestOf}
 
 pub rarest-step : (but best top : ℕ) (literal : List ℕ) (i rarity : ℕ) → i < length literal → rarity ≡ firstPlace (getD literal i 0) common
     → rarestOf but best top i (drop i literal)

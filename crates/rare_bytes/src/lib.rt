@@ -3,10 +3,26 @@
 
 ghost use mathlib.Core.Path.{_≡_};
 ghost use Rattle.definition.specs.Text.{firstPlace};
-ghost use Rattle.literal.specs.Choice.{common, rarestBut};
+ghost use Rattle.rare_bytes.specs.Choice.{chosen, common, rarestBut};
+
+// Two places in a literal, whose bytes are looked for first. Laid out as in C, for callers from there.
+#[repr(C)]
+pub struct Pair {
+    pub first: usize,
+    pub second: usize,
+}
+
+// The pair that is likely to be fastest, to be chosen once for many lines.
+pub fn choose(literal: &[u8]) -> Pair
+    ensures { λ r. ⌜ r ≡ chosen (now (literal .entry)) ⌝ }
+{
+    let first = rarest_but(literal, literal.len());
+    let second = rarest_but(literal, first);
+    Pair { first, second }
+}
 
 // The place of the rarest byte of the literal, but for the place `but`.
-pub fn rarest_but(literal: &[u8], but: usize) -> usize
+fn rarest_but(literal: &[u8], but: usize) -> usize
     ensures { λ r. ⌜ r ≡ rarestBut but (now (literal .entry)) ⌝ }
 {
     let mut best = 0;
@@ -28,5 +44,5 @@ pub fn rarest_but(literal: &[u8], but: usize) -> usize
 fn rarity_of(b: u8) -> usize
     ensures { λ r. ⌜ r ≡ firstPlace b common ⌝ }
 {
-    line_buffer::first_place(b" 0123456789etaoinsrhldcumfpgwybvkxjqz", b)
+    lines::first_place(b" 0123456789etaoinsrhldcumfpgwybvkxjqz", b)
 }

@@ -1,17 +1,17 @@
--- What the search learns of places, over any width: a block without a hit, and a block added to those already seen.
-use Prim.Native.Nat.{ℕ, zero, suc, _+_, _-_, _≤_, _<_, min}
+-- What the search learns of places: a block without a hit, and places added to those already seen.
+use Prim.Native.Nat.{ℕ, zero, suc, _+_, _-_, _≤_, _<_}
 use mathlib.Core.Path.{_≡_, refl, sym, _∙_}
 use mathlib.Core.Bool.{Bool, true, false, _||_, false≢true, true≢false}
 use mathlib.Core.List.{List}
 use native.Mathlib.Decide.{decLt}
 use native.Mathlib.Omega.{arith}
 use lib.Dec.{eqb}
-use lib.ListN.{length, getD, drop, length-drop}
+use lib.ListN.{length, getD, drop}
 use lib.Seq.{getD-drop}
 use borrow.Author.Tests.{eq-eqb}
-use Rattle.literal.specs.Literal.{startsWith, stands}
-use Rattle.literal.specs.Sweeps.{Nowhere, Swept, Fit, anyHit}
-use Rattle.literal.proofs.Stands.{starts-byte, starts-short, stands-nowhere}
+use Rattle.literal_places.specs.Literal.{startsWith, stands}
+use Rattle.literal_places.specs.Sweeps.{Nowhere, Swept, Fit, anyHit}
+use Rattle.literal_places.proofs.Stands.{starts-byte}
 
 -- without a hit, one of the two bytes is missing at each of the places
 no-hit : (literal line : List ℕ) (first second at n k : ℕ) → anyHit literal line first second at n ≡ false → k < n
@@ -74,7 +74,7 @@ pub swept-start : {literal line : List ℕ} {from to : ℕ} → from ≤ to → 
 swept-start l = record { after = omega arith; within = l; none = λ j a b. absurd (omega arith) }
 
 module _ {literal line : List ℕ} {from i to : ℕ} where
-  swept-more : (at n : ℕ) → SweptTo literal line from i to → from ≤ at → at ≤ i → at + n ≤ to → Nowhere literal line at (at + n)
+  pub swept-more : (at n : ℕ) → SweptTo literal line from i to → from ≤ at → at ≤ i → at + n ≤ to → Nowhere literal line at (at + n)
       → SweptTo literal line from (at + n) to
   swept-more at n seen l m r block =
       record { after = omega arith; within = r; none = λ j a b. elim (decLt j i) [ yes k ↦ seen .none j a k | no k ↦ block j (omega arith) b ] }
@@ -83,22 +83,5 @@ module _ {literal line : List ℕ} {from i to : ℕ} where
   pub swept-one : SweptTo literal line from i to → i < to → Nowhere literal line i (i + 1) → SweptTo literal line from (i + 1) to
   swept-one seen l block = swept-more i 1 seen (seen .after) (omega arith) (omega arith) block
 
-  -- a block more, which reaches back over places already seen where fewer than n are left
-  pub swept-block : {at : ℕ} (n : ℕ) → SweptTo literal line from i to → from + n ≤ to → at ≡ min i (to - n) → Nowhere literal line at (at + n)
-      → SweptTo literal line from (at + n) to
-  swept-block n seen l e block = swept-more _ n seen (omega arith) (omega arith) (omega arith) block
-
   pub swept-none : SweptTo literal line from i to → to ≤ i → Swept literal line from to false
   swept-none seen l = record { found = λ e. absurd (false≢true e); none = λ e j a b. seen .none j a (omega arith) }
-
--- the answer for all places at which the literal fits is the answer for the line
-pub swept-whole : {literal line : List ℕ} {to : ℕ} {r : Bool} → Swept literal line 0 to r → length line < to + length literal → r ≡ stands literal line
-swept-whole {r = true} told l = sym (told .found refl)
-swept-whole {literal} {line} {to} {r = false} told l = sym (stands-nowhere literal line nowhere)
-  where
-    nowhere : (j : ℕ) → j ≤ length line → startsWith literal (drop j line) ≡ false
-    nowhere j m =
-        elim (decLt j to) [
-          | yes k ↦ told .none refl j (omega arith) k
-          | no k ↦ starts-short literal (drop j line) (omega (arith, length-drop j line))
-        ]

@@ -1,7 +1,7 @@
 -- The second choice leaves out the first.
 use borrow.Author.Needs.{needs}
-use Rattle.literal.proofs.choose.Statement.{statement}
-use Rattle.literal.proofs.choose.Tie as tie
+use Rattle.rare_bytes.proofs.choose.Statement.{statement}
+use Rattle.rare_bytes.proofs.choose.Tie as tie
 
 rarest-but-requires : tie.Need-rarest-but-requires
 rarest-but-requires c κs = search needs

@@ -1,11 +1,9 @@
--- Examples of the definition and of the choice, worked out by hand; Examples.examples-hold proves the claims.
+-- Examples of the definition, worked out by hand; Examples.examples-hold proves the claim.
 use Prim.Native.Nat.{ℕ}
 use mathlib.Core.Path.{_≡_}
 use mathlib.Core.Bool.{Bool, true, false}
 use mathlib.Core.List.{List, [], _∷_, map}
-use Rattle.literal.specs.Choice.{chosen}
-use Rattle.literal.specs.Literal.{stands}
-use Rattle.literal.specs.declared.Pair.{Pair}
+use Rattle.literal_places.specs.Literal.{stands}
 
 pub record Example : Type 0 where
   pub literal : List ℕ
@@ -41,12 +39,3 @@ Table =
 
 abbrev pub Holds : Type 0
 Holds = map (λ e. stands (e .literal) (e .line)) Table ≡ map (λ e. e .answer) Table
-
-abbrev pair : ℕ → ℕ → Pair
-pair first second = record { first = first; second = second }
-
--- "", "a", "there": h and r; "a#b": # is not among the common bytes; "oo": of two alike the first comes first
-abbrev pub Chooses : Type 0
-Chooses =
-    map chosen ([] ∷ (97 ∷ []) ∷ (116 ∷ 104 ∷ 101 ∷ 114 ∷ 101 ∷ []) ∷ (97 ∷ 35 ∷ 98 ∷ []) ∷ (111 ∷ 111 ∷ []) ∷ [])
-    ≡ pair 0 0 ∷ pair 0 0 ∷ pair 1 3 ∷ pair 1 2 ∷ pair 0 1 ∷ []

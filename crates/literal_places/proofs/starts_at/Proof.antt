@@ -4,10 +4,10 @@ use mathlib.Core.Path.{_≡_, sym, _∙_}
 use native.Mathlib.Omega.{arith}
 use borrow.Author.Tests.{eq-eqb, ne-eqb}
 use lib.ListN.{length, drop}
-use Rattle.literal.specs.Literal.{startsWith}
-use Rattle.literal.proofs.Stands.{starts-step, starts-end}
-use Rattle.literal.proofs.starts_at.Statement.{statement}
-use Rattle.literal.proofs.starts_at.Tie as tie
+use Rattle.literal_places.specs.Literal.{startsWith}
+use Rattle.literal_places.proofs.Stands.{starts-step, starts-end}
+use Rattle.literal_places.proofs.starts_at.Statement.{statement}
+use Rattle.literal_places.proofs.starts_at.Tie as tie
 
 abbrev Inv-loop : tie.InvT-loop
 Inv-loop line literal at k₀ k = (k ≤ length literal) × (startsWith literal (drop at line) ≡ startsWith (drop k literal) (drop (at + k) line))

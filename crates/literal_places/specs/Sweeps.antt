@@ -1,11 +1,11 @@
--- What the search asks and tells on its way; only the contracts of private functions cite it.
+-- What the search asks and tells on its way; the contracts of `literal`'s public functions do not cite it.
 use Prim.Native.Nat.{ℕ, zero, suc, _+_, _≤_, _<_}
 use mathlib.Core.Path.{_≡_}
 use mathlib.Core.Bool.{Bool, true, false, _&&_, _||_}
 use mathlib.Core.List.{List}
 use lib.Dec.{eqb}
 use lib.ListN.{length, getD, drop}
-use Rattle.literal.specs.Literal.{startsWith, stands}
+use Rattle.literal_places.specs.Literal.{startsWith, stands}
 
 -- the literal stands at none of the places from `from` up to `to`
 abbrev pub Nowhere : List ℕ → List ℕ → ℕ → ℕ → Type 0

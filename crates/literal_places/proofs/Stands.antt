@@ -9,7 +9,7 @@ use lib.Dec.{eqb}
 use lib.ListN.{length, getD, drop}
 use lib.Seq.{drop-cons, drop-length, drop-append-seam}
 use borrow.Author.Tests.{eqb-true, eq-eqb}
-use Rattle.literal.specs.Literal.{startsWith, stands, Occurrence, StandsSomewhere}
+use Rattle.literal_places.specs.Literal.{startsWith, stands, Occurrence, StandsSomewhere}
 
 -- # A text that begins with the literal
 

@@ -4,10 +4,10 @@ use mathlib.Core.Path.{_≡_, refl, sym, _∙_}
 use native.Mathlib.Omega.{arith}
 use borrow.Author.Needs.{needs}
 use lib.ListN.{length, drop}
-use Rattle.literal.specs.Choice.{rarestOf, rarestBut}
-use Rattle.literal.proofs.Rarity.{rarest-step, rarest-end}
-use Rattle.literal.proofs.choice.rarest_but.Statement.{statement}
-use Rattle.literal.proofs.choice.rarest_but.Tie as tie
+use Rattle.rare_bytes.specs.Choice.{rarestOf, rarestBut}
+use Rattle.rare_bytes.proofs.Rarity.{rarest-step, rarest-end}
+use Rattle.rare_bytes.proofs.rarest_but.Statement.{statement}
+use Rattle.rare_bytes.proofs.rarest_but.Tie as tie
 
 abbrev Inv-loop : tie.InvT-loop
 Inv-loop literal but best₀ top₀ i₀ best top i = (i ≤ length literal) × (rarestBut but literal ≡ rarestOf but best top i (drop i literal))
