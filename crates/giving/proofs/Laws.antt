@@ -1,13 +1,11 @@
--- Laws of one line answered: by what becomes of it, the before-context, and the rows of a match one after the other.
-use Prim.Native.Nat.{ℕ, zero, suc, _+_, _-_, _*_, _≤_, _<_}
+-- Laws of one line answered: by what becomes of it, and the rows of a match one after the other.
+use Prim.Native.Nat.{ℕ, _+_, _-_, _*_, _≤_, _<_}
 use mathlib.Core.Path.{_≡_, refl, sym, _∙_, ap}
 use mathlib.Core.Bool.{Bool, true, false, cond, _&&_}
 use mathlib.Core.List.{List, [], _∷_, _++_, append-assoc, append-nil, flatten, map}
-use native.Mathlib.Decide.{decLt}
 use native.Mathlib.Omega.{arith}
 use lib.Dec.{ltb}
-use lib.ListN.{length, take, drop, length-append, length-drop, length-map, length-take}
-use lib.Seq.{length-take-le, take-all}
+use lib.ListN.{length, drop, length-append, length-map}
 use borrow.Author.Tests.{le-ltb, lt-ltb}
 use Rattle.definition.specs.declared.Fate.{Fate}
 use Rattle.definition.specs.declared.Fate.the-variants.{Match, After, Other, NoRow}
@@ -16,16 +14,15 @@ use Rattle.definition.specs.Bounds.{contextual}
 use Rattle.definition.specs.Definition.{lastOf}
 use Rattle.definition.specs.Rows.{afterKind, beforeKind, break, flat, matchKind, otherKind, placed, row, rowSize}
 use Rattle.definition.specs.State.{breaks, fateOf, nextLine}
-use Rattle.definition.specs.Text.{firstLength, lines, part, putAt}
+use Rattle.definition.specs.Text.{lines, part, putAt}
 use Rattle.definition.proofs.Lists.{length-putAt, putAt-append, putAt-none}
-use Rattle.definition.proofs.Terminator.{flatten-last, lines-drop, lines-head, lines-whole}
-use Rattle.lines.specs.Lines.{lastStart}
-use Rattle.rows.specs.Table.{BeforeFits, beforeNumbers}
+use Rattle.rows.specs.Table.{beforeNumbers}
 use Rattle.core.specs.declared.Walk.{Walk}
 use Rattle.core.specs.Answer.{AnswerDecision, AnswerRefused, Give, answeringSince, beforeRows, belowOneSince, given, givenBy, givenTable, givenTableBy, putRows, rowsSince, stateSince}
 use Rattle.core.proofs.Back.{backFrom-last, backFrom-placed, length-backFrom}
-use Rattle.giving.specs.declared.Before.{Before}
-use Rattle.giving.specs.Fated.{Placing, beforeOf, breakTable, fatedDecision, fatedGiven, fatedGivenBy, fatedRows, fatedTable, fatedTableBy, gapBefore, lineGiven, lineRow, lineTable, matchTable, refusedBy, servedBy}
+use Rattle.match_rows.specs.MatchTable.{beforeOf, breakTable, gapBefore, lineRow, matchTable}
+use Rattle.match_rows.proofs.Laws.{before-lines, from-le, lines-size, over}
+use Rattle.giving.specs.Fated.{fatedDecision, fatedGiven, fatedGivenBy, fatedRows, fatedTable, fatedTableBy, lineGiven, lineTable, refusedBy, servedBy}
 
 -- # By what becomes of the line
 
@@ -132,21 +129,7 @@ pub none-table : (k : Walk) (since : List ℕ) (len : ℕ) (table : List ℕ) �
 unfolding fatedTable fatedRows putRows flatten
 none-table k since len table = rw (none-decision k since len (length table))
 
--- # The before-context
-
--- lines have bytes
-some-bytes : (j t : ℕ) (xs : List ℕ) → 0 < j → 0 < length xs → 0 < length (flatten (take j (lines t xs)))
-unfolding lines flatten
-some-bytes zero t xs h k = absurd (omega arith)
-some-bytes (suc j) t xs h k =
-    let first = take (firstLength t xs) xs in
-    rw (lines-head t xs k)
-    (omega (arith, length-append first (flatten (take j (lines t (drop (firstLength t xs) xs)))), length-take-le (firstLength t xs) xs (omega arith)))
-
-no-lines : (t : ℕ) (xs : List ℕ) → length xs ≡ 0 → length (lines t xs) ≡ 0
-unfolding lines
-no-lines t [] h = refl
-no-lines t (x ∷ xs) h = absurd (omega arith)
+-- # A match
 
 -- three parts written one after the other
 three : (xs ys zs table : List ℕ) (a b : ℕ) → length xs ≡ a → length ys ≡ b → a + b ≤ length table
@@ -172,58 +155,6 @@ module _ (k : Walk) (since : List ℕ) where
   abbrev count : ℕ
   count = beforeOf k since .lines
 
-  pub from-le : (from ≤ length since) × (length (flatten before) ≡ length since - from)
-  unfolding beforeOf lastStart
-  from-le =
-      let last = flatten-last (k .settings .before) (k .settings .terminator) since in
-      (omega arith, omega (arith, last .0))
-
-  before-part : part from (length since) since ≡ flatten before
-  unfolding beforeOf lastStart
-  before-part =
-      let at = length since - length (flatten before) in
-      take-all (length since - at) (drop at since) (omega (arith, length-drop at since))
-      ∙ flatten-last (k .settings .before) (k .settings .terminator) since .1
-
-  pub before-lines : lines (k .settings .terminator) (part from (length since) since) ≡ before
-  unfolding lastOf
-  before-lines =
-      ap (lines (k .settings .terminator)) before-part ∙ lines-drop (length all - k .settings .before) (k .settings .terminator) since
-
-  left-over : k .settings .before < length all → 0 < from
-  unfolding beforeOf lastStart
-  left-over more =
-      let t = k .settings .terminator in
-      let j = length all - k .settings .before in
-      let last = flatten-last (k .settings .before) t since in
-      let some : 0 < length since = elim (decLt 0 (length since)) [ yes z ↦ z | no z ↦ absurd (omega (arith, no-lines t since (omega arith), more)) ] in
-      omega (
-        arith,
-        last .0,
-        ap length (last .2),
-        length-take (length since - length (flatten before)) since,
-        some-bytes j t since (omega arith) some,
-      )
-
-  all-before : length all ≤ k .settings .before → from ≤ 0
-  unfolding beforeOf lastStart lastOf
-  all-before few =
-      let t = k .settings .terminator in
-      let z : length all - k .settings .before ≡ 0 = omega arith in
-      let whole : length (flatten (drop (length all - k .settings .before) all)) ≡ length since = rw z (ap length (lines-whole t since)) in
-      omega (arith, whole)
-
-  -- lines are left over before it exactly where more lie since the last row
-  over : ltb 0 from ≡ ltb (k .settings .before) (length all)
-  over = elim (decLt (k .settings .before) (length all)) [
-    | yes more ↦ lt-ltb 0 from (left-over more) ∙ sym (lt-ltb (k .settings .before) (length all) more)
-    | no none ↦ le-ltb 0 from (all-before (omega arith)) ∙ sym (le-ltb (k .settings .before) (length all) (omega arith))
-  ]
-
-  pub lines-size : length before ≡ count
-  unfolding beforeOf
-  lines-size = refl
-
   count-is : beforeRows Match (k .settings) (stateSince k since) ≡ count
   unfolding beforeOf stateSince
   count-is = ap length (backFrom-last (k .settings .before) (k .bytes) (k .lines + 1) all) ∙ length-backFrom (k .bytes) (k .lines + 1) before
@@ -243,7 +174,7 @@ module _ (k : Walk) (since : List ℕ) where
 
   gap-test : (contextual (k .settings) && k .given && ltb 0 from) ≡ gapped
   unfolding stateSince
-  gap-test = ap (λ b. contextual (k .settings) && k .given && b) (over ∙ ap (ltb (k .settings .before)) (sym (length-backFrom (k .bytes) (k .lines + 1) all)))
+  gap-test = ap (λ b. contextual (k .settings) && k .given && b) (over k since ∙ ap (ltb (k .settings .before)) (sym (length-backFrom (k .bytes) (k .lines + 1) all)))
 
   gap-count : gapBefore k from ≡ length gaps
   unfolding gapBefore breaks
@@ -265,10 +196,10 @@ module _ (k : Walk) (since : List ℕ) where
       ≡ beforeNumbers (k .settings .terminator) (k .bytes - (length since - from)) (k .lines + 1 - count) (part from (length since) since)
   unfolding beforeNumbers stateSince
   befores-numbers b n =
-      let on = backFrom-placed (k .bytes) (k .lines + 1) before (omega (arith, from-le)) (omega (arith, lines-size)) in
+      let on = backFrom-placed (k .bytes) (k .lines + 1) before (omega (arith, from-le k since)) (omega (arith, lines-size k since)) in
       ap (λ ls. flatten (map flat (map (row beforeKind) ls)))
-      (backFrom-last (k .settings .before) (k .bytes) (k .lines + 1) all ∙ rw (from-le .1, lines-size) at on)
-      ∙ ap (λ ls. flatten (map flat (map (row beforeKind) (placed (k .bytes - (length since - from)) (k .lines + 1 - count) ls)))) (sym before-lines)
+      (backFrom-last (k .settings .before) (k .bytes) (k .lines + 1) all ∙ rw (from-le k since .1, lines-size k since) at on)
+      ∙ ap (λ ls. flatten (map flat (map (row beforeKind) (placed (k .bytes - (length since - from)) (k .lines + 1 - count) ls)))) (sym (before-lines k since))
 
   abbrev total : ℕ
   total = gapBefore k from + count + 1
@@ -330,35 +261,3 @@ module _ (k : Walk) (since : List ℕ) where
         rw (match-decision (length table), le-ltb (k .lines) count n, le-ltb (length table) (rowSize * total) room)
         in
         (rw is (ap (λ m. servedBy Match m) (sym rows-count)), rw is (match-table table b n room))
-
-pub gap-most : (k : Walk) (from : ℕ) → gapBefore k from ≤ 1
-unfolding gapBefore
-gap-most k from = go (contextual (k .settings) && k .given && ltb 0 from)
-  where
-    go : (b : Bool) → cond b 1 0 ≤ 1
-    go true = omega arith
-    go false = omega arith
-
-length-break : (gap : ℕ) (table : List ℕ) → rowSize * gap ≤ length table → length (breakTable gap table) ≡ length table
-unfolding breakTable
-length-break zero table h = refl
-length-break (suc gap) table h = rw (lt-ltb 0 (suc gap) (omega arith)) (length-putAt 0 (flat break) table (omega arith))
-
--- what has room for a match has room for its before-context, after a break or none
-module _ (k : Walk) (since : List ℕ) (len : ℕ) (b : Before) (gap : ℕ) (table : List ℕ) (p : Placing k since len b gap (length table)) where
-  pub placing-from : b .from ≤ length since
-  placing-from = rw (p .before-is) (from-le k since .0)
-
-  placing-lines : length (lines (k .settings .terminator) (part (b .from) (length since) since)) ≡ b .lines
-  placing-lines = rw (p .before-is) (ap length (before-lines k since) ∙ lines-size k since)
-
-  pub placing-fits : BeforeFits (length (breakTable gap table)) (rowSize * gap) (length (part (b .from) (length since) since))
-      (length (lines (k .settings .terminator) (part (b .from) (length since) since))) (k .bytes - (length since - b .from)) (k .lines + 1 - b .lines)
-  placing-fits =
-      let size = length-break gap table (omega (arith, p .room)) in
-      let bytes = length-take (length since - b .from) (drop (b .from) since) in
-      record {
-        room = omega (arith, size, placing-lines, p .room);
-        offsets = omega (arith, bytes, placing-from, length-drop (b .from) since, p .agree);
-        numbers = omega (arith, placing-lines, p .numbered, p .agree);
-      }

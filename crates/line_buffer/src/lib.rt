@@ -1,14 +1,13 @@
 // What line_buffer.rs does with its buffer, over a lent window: the held part moves to the front, and a piece is taken in
 // behind it, converted where that is set.
 use definition::Binary;
-use lines::Found;
 ghost use mathlib.Core.Path.{_≡_};
 ghost use Prim.Native.Nat.{_+_, _≤_};
 ghost use mathlib.Core.Bool.{cond};
 ghost use mathlib.Core.List.{_++_};
 ghost use lib.Dec.{eqb};
 ghost use lib.ListN.{length, drop};
-ghost use Rattle.definition.specs.Text.{firstPlace, putAt, replaced};
+ghost use Rattle.definition.specs.Text.{putAt, replaced};
 ghost use Rattle.line_buffer.specs.Buffer.{converted, rolled};
 
 // The part between two places moves to the window's front; what it does not cover there stays.
@@ -59,14 +58,4 @@ fn replacement(x: u8, byte: u8, by: u8) -> u8
     ensures { λ r. ⌜ r ≡ cond (eqb x byte) by x ⌝ }
 {
     if x == byte { by } else { x }
-}
-
-// The first place of a byte in a piece; the piece's length where it has none.
-pub fn first_place(piece: &[u8], byte: u8) -> usize
-    ensures { λ r. ⌜ r ≡ firstPlace byte (now (piece .entry)) ⌝ }
-{
-    match lines::find(piece, byte) {
-        Found::At(i) => i,
-        Found::Nothing => piece.len(),
-    }
 }

@@ -1,8 +1,8 @@
-// What lines.rs does: where the next line ends, where the last lines start, how many there are, and a line without its
-// terminator. Each over a lent part of a window, for any terminator byte.
+// What lines.rs does: where a byte stands first, where the next line ends, where the last lines start, how many there are,
+// and a line without its terminator. Each over a lent part of a window, for any terminator byte.
 ghost use mathlib.Core.Path.{_≡_};
 ghost use lib.ListN.{length};
-ghost use Rattle.definition.specs.Text.{firstLength, lines};
+ghost use Rattle.definition.specs.Text.{firstLength, firstPlace, lines};
 ghost use Rattle.lines.specs.Lines.{found, lastStart, withoutTerminator};
 
 // The place of a byte, counting from 0.
@@ -23,6 +23,16 @@ pub fn find(s: &[u8], byte: u8) -> Found
         i += 1;
     }
     Found::Nothing
+}
+
+// The first place of a byte in a piece; the piece's length where it has none.
+pub fn first_place(piece: &[u8], byte: u8) -> usize
+    ensures { λ r. ⌜ r ≡ firstPlace byte (now (piece .entry)) ⌝ }
+{
+    match find(piece, byte) {
+        Found::At(i) => i,
+        Found::Nothing => piece.len(),
+    }
 }
 
 // The length of the first line, its terminator included.

@@ -1,32 +1,13 @@
 // The literal matcher: whether a literal stands in a line.
 //
 // Two bytes of the literal are looked for at many places at once, and the whole literal is compared only where both stand.
-// The loop over a fixed count of places has no branch in it, so that it becomes vector code.
+// The loop over a fixed count of places, `literal_places::any_hit`, has no branch in it, so that it becomes vector code.
 
+use rare_bytes::Pair;
 ghost use mathlib.Core.Path.{_≡_};
-ghost use Prim.Native.Nat.{_+_, _≤_, _<_};
-ghost use lib.ListN.{length, drop};
-ghost use Rattle.literal.specs.Choice.{chosen};
-ghost use Rattle.literal.specs.Literal.{startsWith, stands};
-ghost use Rattle.literal.specs.Sweeps.{Swept, Fit, anyHit};
-
-mod choice;
-
-// Two places in a literal, whose bytes are looked for first. Laid out as in C, for callers from there.
-#[repr(C)]
-pub struct Pair {
-    pub first: usize,
-    pub second: usize,
-}
-
-// The pair that is likely to be fastest, to be chosen once for many lines.
-pub fn choose(literal: &[u8]) -> Pair
-    ensures { λ r. ⌜ r ≡ chosen (now (literal .entry)) ⌝ }
-{
-    let first = choice::rarest_but(literal, literal.len());
-    let second = choice::rarest_but(literal, first);
-    Pair { first, second }
-}
+ghost use Prim.Native.Nat.{_+_, _≤_};
+ghost use Rattle.literal_places.specs.Literal.{stands};
+ghost use Rattle.literal_places.specs.Sweeps.{Fit, Swept};
 
 // For a literal that is looked for in one line only: its first and its last byte cost no choice.
 pub fn contains(line: &[u8], literal: &[u8]) -> bool
@@ -69,7 +50,7 @@ fn search(line: &[u8], literal: &[u8], first: usize, second: usize, to: usize) -
     if 16 <= to {
         return sweep_16(line, literal, first, second, 0, to);
     }
-    each(line, literal, first, second, 0, to)
+    literal_places::each(line, literal, first, second, 0, to)
 }
 
 // The last block reaches back over places already seen, so that it is whole too.
@@ -81,7 +62,7 @@ fn sweep_64(line: &[u8], literal: &[u8], first: usize, second: usize, to: usize)
     while i < to {
         let at = numbers::least(i, to - 64);
         i = at + 64;
-        if any_hit(line, literal, first, second, at, 64) {
+        if literal_places::any_hit(line, literal, first, second, at, 64) {
             if sweep_16(line, literal, first, second, at, i) {
                 return true;
             }
@@ -106,62 +87,11 @@ fn sweep_16(
     while i < to {
         let at = numbers::least(i, to - 16);
         i = at + 16;
-        if any_hit(line, literal, first, second, at, 16) {
-            if each(line, literal, first, second, at, i) {
+        if literal_places::any_hit(line, literal, first, second, at, 16) {
+            if literal_places::each(line, literal, first, second, at, i) {
                 return true;
             }
         }
     }
     false
-}
-
-// One place at a time.
-fn each(line: &[u8], literal: &[u8], first: usize, second: usize, from: usize, to: usize) -> bool
-    requires { ⌜ Fit (now literal) (now line) first second to × (from ≤ to) ⌝ }
-    ensures { λ r. ⌜ Swept (now (literal .entry)) (now (line .entry)) from to r ⌝ }
-{
-    let mut i = from;
-    while i < to {
-        let at = i;
-        i = at + 1;
-        if any_hit(line, literal, first, second, at, 1) {
-            if starts_at(line, literal, at) {
-                return true;
-            }
-        }
-    }
-    false
-}
-
-// Whether both bytes stand where they should for one of the n places from `at` on.
-// Called with a constant n, which makes vector code of the loop: no `if`, `&&` or `||` may stand in it.
-fn any_hit(line: &[u8], literal: &[u8], first: usize, second: usize, at: usize, n: usize) -> bool
-    requires { ⌜ Fit (now literal) (now line) first second (at + n) ⌝ }
-    ensures { λ r. ⌜ r ≡ anyHit (now (literal .entry)) (now (line .entry)) first second at n ⌝ }
-{
-    let a = literal[first];
-    let b = literal[second];
-    let p = at + first;
-    let q = at + second;
-    let mut hit = false;
-    let mut k = 0;
-    while k < n {
-        hit = hit | ((line[p + k] == a) & (line[q + k] == b));
-        k += 1;
-    }
-    hit
-}
-
-fn starts_at(line: &[u8], literal: &[u8], at: usize) -> bool
-    requires { ⌜ at + length (now literal) ≤ length (now line) ⌝ }
-    ensures { λ r. ⌜ r ≡ startsWith (now (literal .entry)) (drop at (now (line .entry))) ⌝ }
-{
-    let mut k = 0;
-    while k < literal.len() {
-        if line[at + k] != literal[k] {
-            return false;
-        }
-        k += 1;
-    }
-    true
 }

@@ -2,15 +2,15 @@
 // bench/literal holds it to other searches.
 
 ghost use mathlib.Core.Path.{_≡_};
-ghost use Rattle.literal.specs.Choice.{chosen};
-ghost use Rattle.literal.specs.Literal.{stands};
-use literal::Pair;
+ghost use Rattle.rare_bytes.specs.Choice.{chosen};
+ghost use Rattle.literal_places.specs.Literal.{stands};
+use rare_bytes::Pair;
 
 #[no_mangle]
 pub extern "C" fn literal_choose(literal: &[u8]) -> Pair
     ensures { λ r. ⌜ r ≡ chosen (now (literal .entry)) ⌝ }
 {
-    literal::choose(literal)
+    rare_bytes::choose(literal)
 }
 
 #[no_mangle]

@@ -1,11 +1,10 @@
 -- The decision of an offer with the place where the kept part starts, and what the parts of the code lean on.
-use Prim.Native.Nat.{ℕ, _+_, _-_, _≤_, min}
-use mathlib.Core.Bool.{Bool, not, _&&_, _||_}
+use Prim.Native.Nat.{ℕ, _+_, _-_, _≤_}
+use mathlib.Core.Bool.{Bool, not, _||_}
 use mathlib.Core.List.{List}
 use mathlib.Core.Path.{_≡_}
-use lib.Dec.{ltb, eqb}
+use lib.Dec.{eqb}
 use lib.ListN.{length}
-use Rattle.definition.specs.declared.Binary.{Binary}
 use Rattle.core.specs.Walk.{isOn}
 use Rattle.session.specs.declared.Session.{Session}
 use Rattle.session.specs.Calls.{Idle, OfferDecision, OfferRefused, Take, offering, quitPlace}
@@ -13,7 +12,6 @@ use Rattle.session.specs.Held.{isOpen, keptFrom}
 use Rattle.session.specs.Sound.{Agree}
 use Rattle.offering.specs.declared.Plan.{Plan}
 use Rattle.offering.specs.declared.Plan.the-variants.{Refuse, Nothing, Store}
-use Rattle.offering.specs.declared.Reach.{Reach}
 
 abbrev pub planOf : OfferDecision → ℕ → Plan
 planOf (OfferRefused k) from = Refuse k
@@ -26,14 +24,6 @@ planned s w piece = planOf (offering s w piece) (keptFrom s w)
 -- `idle` of a piece's length
 unfoldable pub idleAt : Session → ℕ → Bool
 idleAt s piece = eqb piece 0 || not (isOpen (s .places .input)) || not (isOn (s .walk .going))
-
--- as many bytes as come before a Quit byte and have room
-unfoldable pub reached : Binary → List ℕ → ℕ → Reach
-reached binary piece room =
-    record {
-      taken = min (quitPlace binary piece) room;
-      quit = eqb (min (quitPlace binary piece) room) (quitPlace binary piece) && ltb (min (quitPlace binary piece) room) (length piece);
-    }
 
 -- a session that agrees with itself and the window, and where its kept part starts
 pub record Sounded (s : Session) (w : List ℕ) (from : ℕ) : Type 0 where

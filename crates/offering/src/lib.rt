@@ -1,8 +1,5 @@
-// OfferDecision a piece: first what is to be done, in the order of the refusals, then the window's bytes and the session.
+// Offering a piece: first what is to be done, in the order of the refusals, then the window's bytes and the session.
 use core::LineAhead;
-use definition::Binary;
-use definition::Place;
-use lines::Found;
 use session::Input;
 use session::OfferOutcome;
 use session::Places;
@@ -12,11 +9,10 @@ ghost use mathlib.Core.Bool.{false, cond, not, _&&_};
 ghost use Prim.Native.Nat.{_≤_};
 ghost use lib.Dec.{eqb};
 ghost use lib.ListN.{length};
-ghost use Rattle.definition.specs.Bounds.{maxInput, maxWindow};
 ghost use Rattle.session.specs.declared.Input.the-variants.{Open, QuitFound};
-ghost use Rattle.session.specs.Calls.{firstOf, idle, offered, offeredWindow, quitPlace, replacedIn, stored, storedWindow};
+ghost use Rattle.session.specs.Calls.{idle, offered, offeredWindow, stored, storedWindow};
 ghost use Rattle.session.specs.Held.{waits};
-ghost use Rattle.offering.specs.Plan.{Sounded, Storing, idleAt, planned, reached};
+ghost use Rattle.offering.specs.Plan.{Sounded, Storing, idleAt, planned};
 
 // What an offer does: refuse by a number, change nothing, or move the window's bytes from a place on to its front and
 // take some bytes in, and whether a Quit byte comes next after them.
@@ -24,12 +20,6 @@ pub enum Plan {
     Refuse(u64),
     Nothing,
     Store(usize, usize, bool),
-}
-
-// How many bytes of a piece come in, and whether a Quit byte comes next after them.
-pub struct Reach {
-    pub taken: usize,
-    pub quit: bool,
 }
 
 pub fn offer(s: Session, window: &mut [u8], piece: &[u8]) -> OfferOutcome
@@ -92,7 +82,7 @@ fn decide_from(s: Session, window: &[u8], piece: &[u8], from: usize) -> Plan
     let binary = c.binary;
     let free = s.places.window - (s.places.end - from);
     let left = definition::MAX_INPUT - held::taken_bytes(s);
-    let reach = reaches(binary, piece, numbers::least(free, left as usize));
+    let reach = reaching::reaches(binary, piece, numbers::least(free, left as usize));
     if reach.quit & (reach.taken == 0) {
         return Plan::Store(from, 0, true);
     }
@@ -103,30 +93,6 @@ fn decide_from(s: Session, window: &[u8], piece: &[u8], from: usize) -> Plan
         return Plan::Refuse(3);
     }
     Plan::Store(from, reach.taken, reach.quit)
-}
-
-// Looks no further into the piece than one byte past what there is room for.
-fn reaches(binary: Binary, piece: &[u8], room: usize) -> Reach
-    requires { ⌜ room ≤ maxWindow ⌝ }
-    ensures { λ r. ⌜ r ≡ reached binary (now (piece .entry)) room ⌝ }
-{
-    let seen = numbers::least(piece.len(), room + 1);
-    let before = before_quit(binary, &piece[..seen]);
-    let taken = numbers::least(before, room);
-    Reach {
-        taken: taken,
-        quit: (taken == before) & (taken < piece.len()),
-    }
-}
-
-fn before_quit(binary: Binary, piece: &[u8]) -> usize
-    ensures { λ r. ⌜ r ≡ quitPlace binary (now (piece .entry)) ⌝ }
-{
-    match binary {
-        Binary::Ignore => piece.len(),
-        Binary::Quit(byte) => line_buffer::first_place(piece, byte),
-        Binary::Convert(_) => piece.len(),
-    }
 }
 
 // No room is left and no line waits. The window is looked at only where there is no room.
@@ -159,7 +125,7 @@ fn store(s: Session, window: &mut [u8], piece: &[u8], from: usize, n: usize, qui
     line_buffer::roll(window, from, end);
     line_buffer::take_in(window, end - from, part, binary, c.terminator);
     let taken = held::taken_bytes(s);
-    let replaced = first_replaced(place, binary, c.terminator, taken, part);
+    let replaced = reaching::first_replaced(place, binary, c.terminator, taken, part);
     let input = input_after(quit);
     let places = Places {
         window: p.window,
@@ -179,39 +145,4 @@ fn input_after(quit: bool) -> Input
     ensures { λ r. ⌜ r ≡ cond quit QuitFound Open ⌝ }
 {
     if quit { Input::QuitFound } else { Input::Open }
-}
-
-// The first replaced byte so far. Once there is one, no piece is looked through for it.
-fn first_replaced(place: Place, binary: Binary, terminator: u8, offset: u64, bytes: &[u8]) -> Place
-    requires { ⌜ offset ≤ maxInput ⌝ }
-    ensures { λ r. ⌜ r ≡ firstOf place (replacedIn binary terminator offset (now (bytes .entry))) ⌝ }
-{
-    match place {
-        Place::At(p) => Place::At(p),
-        Place::Nowhere => replaced_in(binary, terminator, offset, bytes),
-    }
-}
-
-fn replaced_in(binary: Binary, terminator: u8, offset: u64, bytes: &[u8]) -> Place
-    requires { ⌜ offset ≤ maxInput ⌝ }
-    ensures { λ r. ⌜ r ≡ replacedIn binary terminator offset (now (bytes .entry)) ⌝ }
-{
-    match binary {
-        Binary::Ignore => Place::Nowhere,
-        Binary::Quit(_) => Place::Nowhere,
-        Binary::Convert(byte) => converted_place(byte, terminator, offset, bytes),
-    }
-}
-
-fn converted_place(byte: u8, terminator: u8, offset: u64, bytes: &[u8]) -> Place
-    requires { ⌜ offset ≤ maxInput ⌝ }
-    ensures { λ r. ⌜ r ≡ replacedIn (Binary.Convert byte) terminator offset (now (bytes .entry)) ⌝ }
-{
-    if byte == terminator {
-        return Place::Nowhere;
-    }
-    match lines::find(bytes, byte) {
-        Found::At(i) => Place::At(offset + (i as u64)),
-        Found::Nothing => Place::Nowhere,
-    }
 }

@@ -70,7 +70,7 @@ fn search_text(
     window: &mut [u8],
     table: &mut [u64],
 ) -> Searched {
-    let pair = literal::choose(literal);
+    let pair = rare_bytes::choose(literal);
     let mut s = searcher;
     let mut at = 0;
     let mut sum = Sum { rows: 0, mixed: 0 };

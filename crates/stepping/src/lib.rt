@@ -23,7 +23,7 @@ fn limit_reached(limit: Limit, matches: u64) -> bool
 }
 
 // Whether the run goes on; where both stops hold, the limit is the cause.
-pub fn going_next(c: Settings, unselected: bool, matches: u64, left: usize) -> Going
+fn going_next(c: Settings, unselected: bool, matches: u64, left: usize) -> Going
     ensures { λ r. ⌜ r ≡ goingNext c unselected matches left ⌝ }
 {
     let limit = c.limit;

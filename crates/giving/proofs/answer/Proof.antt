@@ -11,12 +11,6 @@ use Rattle.giving.proofs.Laws.{after-row, given-as, line-given, line-ta
 use borrow.Author.Needs.{needs}
 use Rattle.giving.proofs.answer.Statement.{statement}
 use Rattle.giving.proofs.answer.Tie as tie
-use Rattle.giving.proofs.answer.Reads as reads
-use Rattle.giving.proofs.answer.Lts as lts
-use Rattle.stepping.proofs.becomes.Reads as becomes-reads
-use Rattle.giving.proofs.give_line.Reads as give-line-reads
-use Rattle.giving.proofs.give_match.Reads as give-match-reads
-use Rattle.giving.proofs.served.Reads as served-reads
 
 becomes-requires : tie.Need-becomes-requires
 becomes-requires c κs = search needs

@@ -7,12 +7,6 @@ use Rattle.giving.specs.Fated.{lineGiven, lineTable}
 use borrow.Author.Needs.{needs}
 use Rattle.giving.proofs.give_line.Statement.{statement}
 use Rattle.giving.proofs.give_line.Tie as tie
-use Rattle.giving.proofs.give_line.Reads as reads
-use Rattle.giving.proofs.give_line.Lts as lts
-use Rattle.giving.proofs.line_row.Reads as line-row-reads
-use Rattle.giving.proofs.refused.Reads as refused-reads
-use Rattle.giving.proofs.served.Reads as served-reads
-use Rattle.rows.proofs.put_row.Reads as put-row-reads
 
 refused-requires : tie.Need-refused-requires
 refused-requires c κs = search needs

@@ -2,20 +2,13 @@
 use Prim.Native.Nat.{_≤_}
 use mathlib.Core.Path.{_≡_, _∙_, ap}
 use native.Mathlib.Omega.{arith}
-use lib.ListN.{length}
 use Rattle.definition.specs.Bounds.{maxInput}
-use Rattle.giving.specs.Fated.{beforeOf, gapBefore}
-use Rattle.giving.proofs.Laws.{gap-most, match-below, match-few, match-gives}
+use Rattle.match_rows.specs.MatchTable.{beforeOf, gapBefore}
+use Rattle.match_rows.proofs.Laws.{gap-most}
+use Rattle.giving.proofs.Laws.{match-below, match-few, match-gives}
 use borrow.Author.Needs.{needs}
 use Rattle.giving.proofs.give_match.Statement.{statement}
 use Rattle.giving.proofs.give_match.Tie as tie
-use Rattle.giving.proofs.give_match.Reads as reads
-use Rattle.giving.proofs.give_match.Lts as lts
-use Rattle.giving.proofs.before_lines.Reads as before-lines-reads
-use Rattle.giving.proofs.gap_before.Reads as gap-before-reads
-use Rattle.giving.proofs.put_match.Reads as put-match-reads
-use Rattle.giving.proofs.refused.Reads as refused-reads
-use Rattle.giving.proofs.served.Reads as served-reads
 
 before-lines-requires : tie.Need-before-lines-requires
 before-lines-requires c κs = search needs

@@ -2,8 +2,9 @@
 use mathlib.Core.Path.{sym}
 use borrow.Author.Needs.{needs}
 use native.Mathlib.Omega.{arith}
-use Rattle.literal.proofs.Sweeps.{swept-start, swept-none, swept-whole}
-use Rattle.literal.proofs.Stands.{stands-empty}
+use Rattle.literal_places.proofs.Sweeps.{swept-start, swept-none}
+use Rattle.literal.proofs.Blocks.{swept-whole}
+use Rattle.literal_places.proofs.Stands.{stands-empty}
 use Rattle.literal.proofs.contains_by.Statement.{statement}
 use Rattle.literal.proofs.contains_by.Tie as tie
 

@@ -1,7 +1,8 @@
 -- A block with a hit is looked at place by place; the others are passed.
 use Prim.Native.Nat.{_-_}
 use native.Mathlib.Omega.{arith}
-use Rattle.literal.proofs.Sweeps.{SweptTo, miss, swept-start, swept-block, swept-found, swept-none}
+use Rattle.literal_places.proofs.Sweeps.{SweptTo, miss, swept-start, swept-found, swept-none}
+use Rattle.literal.proofs.Blocks.{swept-block}
 use Rattle.literal.proofs.sweep_16.Statement.{statement}
 use Rattle.literal.proofs.sweep_16.Tie as tie
 

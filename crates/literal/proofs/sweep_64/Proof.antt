@@ -1,7 +1,8 @@
 -- A block with a hit is looked at in smaller blocks; the others are passed.
 use Prim.Native.Nat.{_-_}
 use native.Mathlib.Omega.{arith}
-use Rattle.literal.proofs.Sweeps.{SweptTo, miss, swept-start, swept-block, swept-found, swept-none}
+use Rattle.literal_places.proofs.Sweeps.{SweptTo, miss, swept-start, swept-found, swept-none}
+use Rattle.literal.proofs.Blocks.{swept-block}
 use Rattle.literal.proofs.sweep_64.Statement.{statement}
 use Rattle.literal.proofs.sweep_64.Tie as tie
 

@@ -14,12 +14,6 @@ use Rattle.offering.proofs.Laws.{planned-is}
 use borrow.Author.Needs.{needs}
 use Rattle.offering.proofs.decide.Statement.{statement}
 use Rattle.offering.proofs.decide.Tie as tie
-use Rattle.offering.proofs.decide.Reads as reads
-use Rattle.offering.proofs.decide.Lts as lts
-use Rattle.held.proofs.is_sound.Reads as is-sound-reads
-use Rattle.held.proofs.kept_from.Reads as kept-from-reads
-use Rattle.offering.proofs.decide_from.Reads as decide-from-reads
-use Rattle.offering.proofs.is_idle.Reads as is-idle-reads
 
 is-sound-requires : tie.Need-is-sound-requires
 is-sound-requires c κs = search needs

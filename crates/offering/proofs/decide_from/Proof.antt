@@ -5,17 +5,11 @@ use native.Mathlib.Omega.{arith}
 use Rattle.definition.specs.Bounds.{maxInput}
 use Rattle.session.specs.Held.{keptFrom}
 use Rattle.session.specs.Sound.{takenBytes}
-use Rattle.offering.specs.Plan.{reached}
+use Rattle.reaching.specs.Reached.{reached}
 use Rattle.offering.proofs.Laws.{path-front, path-size, path-stuck, path-take}
 use borrow.Author.Needs.{needs}
 use Rattle.offering.proofs.decide_from.Statement.{statement}
 use Rattle.offering.proofs.decide_from.Tie as tie
-use Rattle.offering.proofs.decide_from.Reads as reads
-use Rattle.offering.proofs.decide_from.Lts as lts
-use Rattle.held.proofs.taken_bytes.Reads as taken-bytes-reads
-use Rattle.offering.proofs.is_stuck.Reads as is-stuck-reads
-use Rattle.numbers.proofs.least.Reads as least-reads
-use Rattle.offering.proofs.reaches.Reads as reaches-reads
 
 from-le : (c : tie.Start) → c .args .from ≤ c .args .s .places .end
 unfolding keptFrom

@@ -3,10 +3,6 @@ use Rattle.offering.specs.Plan.{idleAt}
 use borrow.Author.Needs.{needs}
 use Rattle.offering.proofs.is_idle.Statement.{statement}
 use Rattle.offering.proofs.is_idle.Tie as tie
-use Rattle.offering.proofs.is_idle.Reads as reads
-use Rattle.offering.proofs.is_idle.Lts as lts
-use Rattle.ahead.proofs.is_on.Reads as is-on-reads
-use Rattle.held.proofs.is_open.Reads as is-open-reads
 
 is-open-requires : tie.Need-is-open-requires
 is-open-requires c κs = search needs

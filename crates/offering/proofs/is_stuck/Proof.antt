@@ -9,9 +9,6 @@ use Rattle.offering.proofs.Laws.{and-false}
 use borrow.Author.Needs.{needs}
 use Rattle.offering.proofs.is_stuck.Statement.{statement}
 use Rattle.offering.proofs.is_stuck.Tie as tie
-use Rattle.offering.proofs.is_stuck.Reads as reads
-use Rattle.offering.proofs.is_stuck.Lts as lts
-use Rattle.held.proofs.next_line.Reads as next-line-reads
 
 returns : tie.Need-returns
 returns c = rw (ne-eqb (c .before .before .args .free) 0 (λ z. omega arith)) (sym (and-false (not (waits (c .before .before .args .s) (c .before .before .args .window .now)))))

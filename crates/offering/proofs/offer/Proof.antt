@@ -5,10 +5,6 @@ use Rattle.offering.proofs.Laws.{nothing-is, refused-is, store-is, stor
 use borrow.Author.Needs.{needs}
 use Rattle.offering.proofs.offer.Statement.{statement}
 use Rattle.offering.proofs.offer.Tie as tie
-use Rattle.offering.proofs.offer.Reads as reads
-use Rattle.offering.proofs.offer.Lts as lts
-use Rattle.offering.proofs.decide.Reads as decide-reads
-use Rattle.offering.proofs.store.Reads as store-reads
 
 decide-requires : tie.Need-decide-requires
 decide-requires c κs = search needs

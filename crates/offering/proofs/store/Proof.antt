@@ -13,13 +13,6 @@ use Rattle.offering.proofs.Laws.{stored-bytes}
 use borrow.Author.Needs.{needs}
 use Rattle.offering.proofs.store.Statement.{statement}
 use Rattle.offering.proofs.store.Tie as tie
-use Rattle.offering.proofs.store.Reads as reads
-use Rattle.offering.proofs.store.Lts as lts
-use Rattle.held.proofs.taken_bytes.Reads as taken-bytes-reads
-use Rattle.line_buffer.proofs.roll.Reads as roll-reads
-use Rattle.line_buffer.proofs.take_in.Reads as take-in-reads
-use Rattle.offering.proofs.first_replaced.Reads as first-replaced-reads
-use Rattle.offering.proofs.input_after.Reads as input-after-reads
 
 record Facts (c : tie.Start) : Type 0 where
   back : c .args .from ≤ c .args .s .places .next

@@ -4,10 +4,6 @@ use Rattle.machine.proofs.Feeds.{end-taken, fed-taken}
 use borrow.Author.Needs.{needs}
 use Rattle.searcher_c.proofs.feed.Statement.{statement}
 use Rattle.searcher_c.proofs.feed.Tie as tie
-use Rattle.searcher_c.proofs.feed.Reads as reads
-use Rattle.searcher_c.proofs.feed.Lts as lts
-use Rattle.driving.proofs.feed.Reads as feed-reads
-use Rattle.driving.proofs.tell_end.Reads as tell-end-reads
 
 feed-requires : tie.Need-feed-requires
 feed-requires c κs = search needs

@@ -4,8 +4,6 @@ use lib.ListN.{length-take}
 use borrow.Author.Needs.{needs}
 use Rattle.searcher_c.proofs.first.Statement.{statement}
 use Rattle.searcher_c.proofs.first.Tie as tie
-use Rattle.searcher_c.proofs.first.Reads as reads
-use Rattle.searcher_c.proofs.first.Lts as lts
 
 returns : tie.Need-returns
 returns c = search needs

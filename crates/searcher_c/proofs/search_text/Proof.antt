@@ -8,16 +8,6 @@ use Rattle.searcher.specs.Door.{doorAnswered}
 use Rattle.searcher.proofs.Laws.{rows-le}
 use Rattle.searcher_c.proofs.search_text.Statement.{statement}
 use Rattle.searcher_c.proofs.search_text.Tie as tie
-use Rattle.searcher_c.proofs.search_text.Reads as reads
-use Rattle.searcher_c.proofs.search_text.Lts as lts
-use Rattle.literal.proofs.choose.Reads as choose-reads
-use Rattle.literal.proofs.contains_by.Reads as contains-by-reads
-use Rattle.searcher.proofs.Searcher.answer.Reads as answer-reads
-use Rattle.searcher.proofs.Searcher.line.Reads as line-reads
-use Rattle.searcher_c.proofs.ended.Reads as ended-reads
-use Rattle.searcher_c.proofs.feed.Reads as feed-reads
-use Rattle.searcher_c.proofs.first.Reads as first-reads
-use Rattle.searcher_c.proofs.sum_up.Reads as sum-up-reads
 
 abbrev Inv-loop : tie.InvT-loop
 Inv-loop text piece literal window₀ table₀ pair s₀ at₀ sum₀ turns₀ window table s at sum turns =

@@ -4,10 +4,6 @@ use Prim.Native.Nat.{_*_, _-_}
 use mathlib.Core.Path.{_≡_}
 use Rattle.searcher_c.proofs.sum_up.Statement.{statement}
 use Rattle.searcher_c.proofs.sum_up.Tie as tie
-use Rattle.searcher_c.proofs.sum_up.Reads as reads
-use Rattle.searcher_c.proofs.sum_up.Lts as lts
-use Rattle.searcher_c.proofs.mix.Reads as mix-reads
-use Rattle.std.proofs.num.wrapping_add_u64.Reads as wrapping-add-u64-reads
 
 abbrev Inv-loop : tie.InvT-loop
 Inv-loop sum table rows mixed₀ end i₀ mixed i = end ≡ 4 * rows

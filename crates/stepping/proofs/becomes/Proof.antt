@@ -6,9 +6,6 @@ use Rattle.definition.specs.Definition.{fate}
 use borrow.Author.Needs.{needs}
 use Rattle.stepping.proofs.becomes.Statement.{statement}
 use Rattle.stepping.proofs.becomes.Tie as tie
-use Rattle.stepping.proofs.becomes.Reads as reads
-use Rattle.stepping.proofs.becomes.Lts as lts
-use Rattle.stepping.proofs.is_selected.Reads as is-selected-reads
 
 is-selected-requires : tie.Need-is-selected-requires
 is-selected-requires c κs = search needs

@@ -4,9 +4,6 @@ use Rattle.definition.specs.Definition.{goingNext}
 use borrow.Author.Needs.{needs}
 use Rattle.stepping.proofs.going_next.Statement.{statement}
 use Rattle.stepping.proofs.going_next.Tie as tie
-use Rattle.stepping.proofs.going_next.Reads as reads
-use Rattle.stepping.proofs.going_next.Lts as lts
-use Rattle.stepping.proofs.limit_reached.Reads as limit-reached-reads
 
 limit-reached-requires : tie.Need-limit-reached-requires
 limit-reached-requires c κs = search needs

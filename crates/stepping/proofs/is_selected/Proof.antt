@@ -4,9 +4,6 @@ use Rattle.stepping.proofs.Laws.{differs}
 use borrow.Author.Needs.{needs}
 use Rattle.stepping.proofs.is_selected.Statement.{statement}
 use Rattle.stepping.proofs.is_selected.Tie as tie
-use Rattle.stepping.proofs.is_selected.Reads as reads
-use Rattle.stepping.proofs.is_selected.Lts as lts
-use Rattle.stepping.proofs.limit_reached.Reads as limit-reached-reads
 
 limit-reached-requires : tie.Need-limit-reached-requires
 limit-reached-requires c κs = search needs

@@ -2,9 +2,6 @@
 use borrow.Author.Needs.{needs}
 use Rattle.stepping.proofs.left_next.Statement.{statement}
 use Rattle.stepping.proofs.left_next.Tie as tie
-use Rattle.stepping.proofs.left_next.Reads as reads
-use Rattle.stepping.proofs.left_next.Lts as lts
-use Rattle.stepping.proofs.less_one.Reads as less-one-reads
 
 enum-told : tie.Need-enum-told
 enum-told c = search needs

@@ -2,8 +2,6 @@
 use borrow.Author.Needs.{needs}
 use Rattle.stepping.proofs.limit_reached.Statement.{statement}
 use Rattle.stepping.proofs.limit_reached.Tie as tie
-use Rattle.stepping.proofs.limit_reached.Reads as reads
-use Rattle.stepping.proofs.limit_reached.Lts as lts
 
 enum-told : tie.Need-enum-told
 enum-told c = search needs

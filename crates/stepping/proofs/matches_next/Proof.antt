@@ -2,8 +2,6 @@
 use borrow.Author.Needs.{needs}
 use Rattle.stepping.proofs.matches_next.Statement.{statement}
 use Rattle.stepping.proofs.matches_next.Tie as tie
-use Rattle.stepping.proofs.matches_next.Reads as reads
-use Rattle.stepping.proofs.matches_next.Lts as lts
 
 enum-told : tie.Need-enum-told
 enum-told c = search needs

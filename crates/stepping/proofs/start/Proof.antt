@@ -2,9 +2,6 @@
 use borrow.Author.Needs.{needs}
 use Rattle.stepping.proofs.start.Statement.{statement}
 use Rattle.stepping.proofs.start.Tie as tie
-use Rattle.stepping.proofs.start.Reads as reads
-use Rattle.stepping.proofs.start.Lts as lts
-use Rattle.stepping.proofs.going_next.Reads as going-next-reads
 
 going-next-requires : tie.Need-going-next-requires
 going-next-requires c κs = search needs

@@ -3,13 +3,6 @@ use Rattle.core.specs.Step.{walkStep}
 use borrow.Author.Needs.{needs}
 use Rattle.stepping.proofs.step.Statement.{statement}
 use Rattle.stepping.proofs.step.Tie as tie
-use Rattle.stepping.proofs.step.Reads as reads
-use Rattle.stepping.proofs.step.Lts as lts
-use Rattle.stepping.proofs.given_next.Reads as given-next-reads
-use Rattle.stepping.proofs.going_next.Reads as going-next-reads
-use Rattle.stepping.proofs.is_match.Reads as is-match-reads
-use Rattle.stepping.proofs.left_next.Reads as left-next-reads
-use Rattle.stepping.proofs.matches_next.Reads as matches-next-reads
 
 matches-next-requires : tie.Need-matches-next-requires
 matches-next-requires c κs = search needs

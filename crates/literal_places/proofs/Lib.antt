@@ -1,0 +1,4 @@
+-- What is proved of the places of a literal.
+pub mod Stands
+pub mod Sweeps
+pub mod Examples

@@ -1,0 +1,2 @@
+-- What is proved of the rows of a match.
+pub mod Laws

@@ -1,0 +1,3 @@
+-- What is proved of the choice.
+pub mod Rarity
+pub mod Examples

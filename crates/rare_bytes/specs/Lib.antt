@@ -1,0 +1,3 @@
+-- The choice of two bytes, which is only about speed.
+pub mod Choice
+pub mod Examples

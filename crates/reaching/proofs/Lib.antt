@@ -1,0 +1,2 @@
+-- What is proved of how far a piece reaches.
+pub mod Laws

@@ -1,0 +1,2 @@
+-- What of a piece comes in.
+pub mod Reached
