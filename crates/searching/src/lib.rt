@@ -2,7 +2,8 @@
 // Rows are printed as they come, `kind number offset length` a line, then `end bytes lines matches cause`; in place of
 // that, `refused` with the refusal's number, or `failed read`.
 //
-// Here are its buffers alone: all that it does with them is `serving`.
+// Its buffers are here; what it does with them is in `serving`.
+
 // The rows of an answer: at most so many before, a break and a match.
 const TABLE: usize = definition::ROW * (definition::MAX_CONTEXT + 2);
 
