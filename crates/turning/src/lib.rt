@@ -41,10 +41,10 @@ pub fn turns(
             let next = fed.next;
             match next {
                 Next::Goes => {}
-                Next::Wants => return standing::wanting(
-                    standing::going(s, searcher, at, pending),
-                    input,
-                ),
+                Next::Wants => {
+                    let left = standing::going(s, searcher, at, pending);
+                    return standing::wanting(left, input);
+                }
                 Next::Refuses(k) => return standing::over(s, printing::refusal(out, pending, k)),
                 Next::Ends(end) => return standing::over(s, printing::end(out, pending, end)),
             }
