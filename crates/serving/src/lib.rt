@@ -1,5 +1,5 @@
-// Reads, turns and writes by turns, on lent buffers. What is done between a read and a write is that of `search_machine`; `serve` and
-// `step` alone read and write.
+// The whole run on lent buffers: a read or some turns, then a write, until all is told. What is done between a read and a write is
+// that of `search_machine`; `serve` and `step` alone read and write.
 use search_machine::Phase;
 use search_machine::Search;
 use search_machine::Stage;

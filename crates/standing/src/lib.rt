@@ -1,4 +1,5 @@
-// How `search` stands next: each function makes one `Search` from another, field by field. None asks the driver.
+// How `search` stands next. Each function makes one `Search` from another and feeds the driver nothing; `wanting` alone touches a
+// buffer.
 use literal::Pair;
 use search_machine::Phase;
 use search_machine::Search;
@@ -60,7 +61,7 @@ pub fn begun(s: Search, size: usize, pair: Pair, from: usize) -> Search
     }
 }
 
-// The search as it now stands in the text, with what is left at a place of the input.
+// The search goes on: its searcher, the place of the input where what is left starts, and what is pending.
 pub fn going(s: Search, searcher: Searcher, at: usize, pending: Pending) -> Search
     ensures { λ r. ⌜ r ≡ goingWith s searcher at pending ⌝ }
 {
