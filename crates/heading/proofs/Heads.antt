@@ -14,7 +14,7 @@ use Rattle.forms.specs.declared.Asked.the-variants.{For}
 use Rattle.forms.specs.First.{askedOf}
 use Rattle.definition.specs.declared.Settings.{Settings}
 use Rattle.line_buffer.specs.Buffer.{rolled}
-use Rattle.literal.specs.declared.Pair.{Pair}
+use Rattle.rare_bytes.specs.declared.Pair.{Pair}
 use Rattle.machine.specs.Machine.{ends, goes, wants}
 use Rattle.searcher.specs.declared.Opened.{Opened}
 use Rattle.searcher.specs.Door.{doorOpened, searcher}

@@ -2,21 +2,16 @@
 use definition::Settings;
 use forms::Asked;
 use lines::Found;
-use literal::Pair;
-use output::Pending;
-use search_machine::Phase;
 use search_machine::Search;
 use search_machine::Seen;
-use search_machine::Stage;
 use searcher::Searcher;
 ghost use mathlib.Core.Path.{_≡_};
-ghost use Prim.Native.Nat.{_+_, _≤_, _<_};
+ghost use Prim.Native.Nat.{_+_, _≤_};
 ghost use lib.ListN.{length};
-ghost use Rattle.line_buffer.specs.Buffer.{rolled};
 ghost use Rattle.session.specs.Calls.{opened};
 ghost use Rattle.search_machine.specs.declared.Stage.the-variants.{First, Second};
 ghost use Rattle.search_machine.specs.Head.{lookedAt};
-ghost use Rattle.search_machine.specs.Standing.{HeadReady, OpenedTo, Turned, begunWith, overWith, seen, wantingWith};
+ghost use Rattle.search_machine.specs.Standing.{HeadReady, OpenedTo, Turned, seen};
 ghost use Rattle.printing.specs.Texts.{lineMost};
 
 // The longest either may be, without its newline.
@@ -51,11 +46,11 @@ pub fn first(s: Search, window: &[u8], literal: &[u8], input: &mut [u8], out: &m
             let end = from + length;
             match forms::first_line(&input[from..end]) {
                 Asked::For(settings) => open(s, settings, window.len(), end + 1, out),
-                Asked::OtherForm => over(s, printing::refusal(out, s.pending, 1)),
+                Asked::OtherForm => standing::over(s, printing::refusal(out, s.pending, 1)),
             }
         }
-        Seen::Unfinished => wanting(s, input),
-        Seen::TooLong => over(s, printing::refusal(out, s.pending, 1)),
+        Seen::Unfinished => standing::wanting(s, input),
+        Seen::TooLong => standing::over(s, printing::refusal(out, s.pending, 1)),
     }
 }
 
@@ -66,21 +61,9 @@ fn open(s: Search, settings: Settings, window: usize, from: usize, out: &mut [u8
 {
     let opened = Searcher::open(settings, window);
     if opened.refusal != 0 {
-        return over(s, printing::refusal(out, s.pending, opened.refusal));
+        return standing::over(s, printing::refusal(out, s.pending, opened.refusal));
     }
-    let searcher = opened.searcher;
-    let pair = s.pair;
-    let pending = s.pending;
-    Search {
-        stage: Stage::Second,
-        phase: Phase::Going,
-        searcher: searcher,
-        size: s.size,
-        pair: pair,
-        from: from,
-        to: s.to,
-        pending: pending,
-    }
+    standing::opened(s, opened.searcher, from)
 }
 
 // The second line, which is the literal; it moves to a room of its own, since the input is read over.
@@ -100,71 +83,9 @@ pub fn second(
         Seen::Whole(length) => {
             let end = from + length;
             bytes::copy(&input[from..end], literal);
-            begun(s, length, literal::choose(&literal[..length]), end + 1)
+            standing::begun(s, length, rare_bytes::choose(&literal[..length]), end + 1)
         }
-        Seen::Unfinished => wanting(s, input),
-        Seen::TooLong => over(s, printing::refusal(out, s.pending, 1)),
-    }
-}
-
-// The text begins at a place of the input.
-fn begun(s: Search, size: usize, pair: Pair, from: usize) -> Search
-    ensures { λ r. ⌜ r ≡ begunWith s size pair from ⌝ }
-{
-    let searcher = s.searcher;
-    let pending = s.pending;
-    Search {
-        stage: Stage::Text,
-        phase: Phase::Going,
-        searcher: searcher,
-        size: size,
-        pair: pair,
-        from: from,
-        to: s.to,
-        pending: pending,
-    }
-}
-
-// A read is wanted. What is left moves to the input's front, so that there is room behind it.
-pub fn wanting(s: Search, input: &mut [u8]) -> Search
-    requires { ⌜ (s .from ≤ s .to) × (s .to ≤ length (now input)) ⌝ }
-    ensures { λ r. ⌜ r ≡ wantingWith s ⌝ }
-    ensures { λ _. ⌜ now (input .exit) ≡ rolled (s .from) (s .to) (now (input .entry)) ⌝ }
-{
-    let stage = s.stage;
-    let searcher = s.searcher;
-    let pair = s.pair;
-    let pending = s.pending;
-    let from = s.from;
-    let to = s.to;
-    line_buffer::roll(input, from, to);
-    Search {
-        stage: stage,
-        phase: Phase::Wants,
-        searcher: searcher,
-        size: s.size,
-        pair: pair,
-        from: 0,
-        to: to - from,
-        pending: pending,
-    }
-}
-
-// All is told but for what is pending.
-pub fn over(s: Search, pending: Pending) -> Search
-    ensures { λ r. ⌜ r ≡ overWith s pending ⌝ }
-{
-    let stage = s.stage;
-    let searcher = s.searcher;
-    let pair = s.pair;
-    Search {
-        stage: stage,
-        phase: Phase::Over,
-        searcher: searcher,
-        size: s.size,
-        pair: pair,
-        from: s.from,
-        to: s.to,
-        pending: pending,
+        Seen::Unfinished => standing::wanting(s, input),
+        Seen::TooLong => standing::over(s, printing::refusal(out, s.pending, 1)),
     }
 }

@@ -8,6 +8,9 @@ ghost use Rattle.definition.specs.Rows.{rowSize};
 ghost use Rattle.output.specs.Output.{Tells, decimal};
 ghost use Rattle.printing.specs.Texts.{endText, fourText, lineMost, refusedText, rowMost, rowsText, space};
 
+// The longest text of a row: four numbers of at most 20 digits, three spaces and a newline.
+pub const LONGEST_ROW: usize = 84;
+
 pub fn refusal(out: &mut [u8], pending: Pending, number: u64) -> Pending
     requires { ⌜ pending .length + lineMost ≤ length (now out) ⌝ }
     ensures { λ r. ⌜ Tells pending (now (out .entry)) (refusedText number) r (now (out .exit)) ⌝ }

@@ -10,7 +10,7 @@ use Rattle.forms.specs.First.{areRight, askedOf, settingsOf}
 use Rattle.forms.specs.Limits.{limitOf}
 use Rattle.line_words.specs.Numbers.{areDigits, behind, decimalOf, digitBehind, digitsBehind, isDash, isDigit}
 use Rattle.line_words.specs.Words.{spacesOf, wordOf}
-use Rattle.literal.specs.Literal.{stands, startsWith}
+use Rattle.literal_places.specs.Literal.{stands, startsWith}
 use Rattle.machine.specs.Machine.{run}
 use Rattle.machine.specs.Program.{fed, fedEnd, fedWindow, feeds, turns}
 use Rattle.core.specs.Answer.{answeringSince, backFrom, belowOneSince, rowsSince, stateSince, walkNext}

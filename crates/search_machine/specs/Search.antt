@@ -7,7 +7,7 @@ use lib.ListN.{length, take, drop}
 use Rattle.forms.specs.declared.Asked.{Asked}
 use Rattle.forms.specs.declared.Asked.the-variants.{For, OtherForm}
 use Rattle.forms.specs.First.{askedOf}
-use Rattle.literal.specs.Literal.{stands}
+use Rattle.literal_places.specs.Literal.{stands}
 use Rattle.machine.specs.Machine.{Machine, Read, Turn, ended, ends, failed, goes, some, wants}
 use Rattle.machine.specs.Program.{Program, Standing, hears, turns}
 use Rattle.session.specs.declared.Session.{Session}

@@ -5,7 +5,7 @@ use mathlib.Core.Bool.{false}
 use mathlib.Core.List.{List, []}
 use lib.ListN.{length, take}
 use Rattle.definition.specs.Text.{part}
-use Rattle.literal.specs.declared.Pair.{Pair}
+use Rattle.rare_bytes.specs.declared.Pair.{Pair}
 use Rattle.machine.specs.Machine.{Closes, Leads, Turn, ended, ends, failed, goes, some, wants}
 use Rattle.machine.specs.Program.{tableSize}
 use Rattle.searcher.specs.declared.Searcher.{Searcher}

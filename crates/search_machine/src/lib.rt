@@ -1,7 +1,7 @@
 // How the program `search` stands between two turns, as plain data. What it does is in specs/, as a machine on lists, and with it
 // what it is promised to print.
-use literal::Pair;
 use output::Pending;
+use rare_bytes::Pair;
 use searcher::Searcher;
 
 // What is looked for at the front of what was read: the first line, the second, or the lines of the text.

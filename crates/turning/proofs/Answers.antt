@@ -11,7 +11,7 @@ use Rattle.definition.specs.declared.End.{End}
 use Rattle.definition.specs.Rows.{rowSize}
 use Rattle.driving.specs.declared.Fed.{Fed}
 use Rattle.driving.specs.Door.{doorFed}
-use Rattle.literal.specs.Literal.{stands}
+use Rattle.literal_places.specs.Literal.{stands}
 use Rattle.machine.specs.declared.Next.the-variants.{Goes, Wants, Refuses, Ends}
 use Rattle.machine.specs.Machine.{ends, goes, wants}
 use Rattle.machine.specs.declared.Fed as machine-fed

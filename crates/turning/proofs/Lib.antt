@@ -1,4 +1,3 @@
--- Laws of turns in the text, and of what is heard there.
+-- Laws of turns in the text.
 pub mod Answers
 pub mod Looping
-pub mod Hearings

@@ -23,12 +23,17 @@ returns c =
     let o = c .before .before .before .before .before .before .before .«open» in
     opened-refused (a .s) (opened (a .settings) (a .window)) (a .from) (a .out .now) (o .result) (o .ensures) (c .before .before .before .before .before .if1 .taken) _ _ _ (c .over .ensures) (c .before .before .before .refusal .ensures)
 
+opened-requires : tie.Need-opened-requires
+opened-requires c κs = search needs
+
 returns-2 : tie.Need-returns-2
 returns-2 c =
-    let a = c .before .before .before .before .before .before .before .args in
-    let o = c .before .before .before .before .before .«open» in
-    opened-served (a .s) (opened (a .settings) (a .window)) (a .from) (a .out .now) (o .result) (o .ensures) (c .before .before .before .if1 .left)
+    let a = c .before .before .before .before .before .args in
+    let o = c .before .before .before .«open» in
+    rw (c .opened .ensures)
+    (opened-served (a .s) (opened (a .settings) (a .window)) (a .from) (a .out .now) (o .result) (o .ensures) (c .before .if1 .left))
 
 pub open-spec : {M : Type 1} → statement M
 open-spec =
-    tie.close (tie.spec open-requires refusal-requires over-requires same-length returns returns-2)
+    tie.close
+    (tie.spec open-requires refusal-requires over-requires same-length returns opened-requires returns-2)

@@ -4,9 +4,9 @@ use native.Mathlib.Omega.{arith}
 use lib.ListN.{length, take, length-take}
 use borrow.Author.Needs.{needs}
 use Rattle.search_machine.specs.Standing.{Rests}
-use Rattle.searching.proofs.Running.{Sizes, lent-still, rests-start, same-sizes}
-use Rattle.searching.proofs.serve.Statement.{statement}
-use Rattle.searching.proofs.serve.Tie as tie
+use Rattle.serving.proofs.Running.{Sizes, lent-still, rests-start, same-sizes}
+use Rattle.serving.proofs.serve.Statement.{statement}
+use Rattle.serving.proofs.serve.Tie as tie
 
 abbrev Inv-loop : tie.InvT-loop
 Inv-loop window₀ table₀ literal₀ input₀ out₀ s₀ turns₀ window table literal input out s turns =

@@ -1,8 +1,8 @@
 -- Each stage asks no more than is ready.
 use Rattle.heading.proofs.Heads.{head-ready}
 use borrow.Author.Needs.{needs}
-use Rattle.searching.proofs.go_on.Statement.{statement}
-use Rattle.searching.proofs.go_on.Tie as tie
+use Rattle.serving.proofs.go_on.Statement.{statement}
+use Rattle.serving.proofs.go_on.Tie as tie
 
 enum-told : tie.Need-enum-told
 enum-told c = search needs

@@ -1,11 +1,11 @@
 -- Each thing that a read can give is what the machine hears.
 use native.Mathlib.Omega.{arith}
 use Rattle.streams.specs.Moves.{failedRead}
-use Rattle.turning.proofs.Hearings.{bytes-heard, end-heard, failure-heard, fits-heard, signal-heard}
+use Rattle.hearing.proofs.Hearings.{bytes-heard, end-heard, failure-heard, fits-heard, signal-heard}
 use Rattle.printing.proofs.Laws.{put-tells}
 use borrow.Author.Needs.{needs}
-use Rattle.searching.proofs.heard.Statement.{statement}
-use Rattle.searching.proofs.heard.Tie as tie
+use Rattle.hearing.proofs.heard.Statement.{statement}
+use Rattle.hearing.proofs.heard.Tie as tie
 
 enum-known-got : tie.Need-enum-known-got
 enum-known-got c = search needs

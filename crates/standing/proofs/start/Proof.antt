@@ -1,7 +1,7 @@
 -- A closed searcher, and nothing pending.
 use borrow.Author.Needs.{needs}
-use Rattle.searching.proofs.start.Statement.{statement}
-use Rattle.searching.proofs.start.Tie as tie
+use Rattle.standing.proofs.start.Statement.{statement}
+use Rattle.standing.proofs.start.Tie as tie
 
 closed-requires : tie.Need-closed-requires
 closed-requires c κs = search needs

@@ -3,10 +3,10 @@ use lib.ListN.{take}
 use Rattle.definition.specs.Text.{part}
 use Rattle.streams.specs.declared.Moved.the-variants.{Nothing}
 use Rattle.printing.specs.Texts.{refusedText}
-use Rattle.turning.proofs.Hearings.{first-ended, heard-over, second-ended}
+use Rattle.hearing.proofs.Hearings.{first-ended, heard-over, second-ended}
 use borrow.Author.Needs.{needs}
-use Rattle.searching.proofs.ended.Statement.{statement}
-use Rattle.searching.proofs.ended.Tie as tie
+use Rattle.hearing.proofs.ended.Statement.{statement}
+use Rattle.hearing.proofs.ended.Tie as tie
 
 enum-told : tie.Need-enum-told
 enum-told c = search needs
@@ -29,8 +29,8 @@ over-requires-2 c κs = search needs
 enum-told-3 : tie.Need-enum-told-3
 enum-told-3 c = search needs
 
-ended-requires : tie.Need-ended-requires
-ended-requires c κs = search needs
+text-ended-requires : tie.Need-text-ended-requires
+text-ended-requires c κs = search needs
 
 same-length : tie.Need-same-length
 same-length c = search needs
@@ -67,7 +67,7 @@ ended-spec =
     refusal-requires-2
     over-requires-2
     enum-told-3
-    ended-requires
+    text-ended-requires
     same-length
     returns
     same-length-2

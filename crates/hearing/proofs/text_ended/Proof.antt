@@ -3,17 +3,17 @@ use lib.ListN.{take}
 use Rattle.definition.specs.Text.{part}
 use Rattle.streams.specs.declared.Moved.the-variants.{Nothing}
 use Rattle.printing.specs.Texts.{endText, refusedText}
-use Rattle.turning.proofs.Hearings.{heard-over, heard-told, text-ends, text-goes, text-refuses, told-wants}
+use Rattle.hearing.proofs.Hearings.{heard-over, heard-told, text-ends, text-goes, text-refuses, told-wants}
 use borrow.Author.Needs.{needs}
-use Rattle.turning.proofs.ended.Statement.{statement}
-use Rattle.turning.proofs.ended.Tie as tie
-use Rattle.turning.proofs.ended.Reads as reads
-use Rattle.turning.proofs.ended.Lts as lts
+use Rattle.hearing.proofs.text_ended.Statement.{statement}
+use Rattle.hearing.proofs.text_ended.Tie as tie
+use Rattle.hearing.proofs.text_ended.Reads as reads
+use Rattle.hearing.proofs.text_ended.Lts as lts
 use Rattle.driving.proofs.tell_end.Reads as tell-end-reads
-use Rattle.heading.proofs.over.Reads as over-reads
+use Rattle.standing.proofs.over.Reads as over-reads
 use Rattle.printing.proofs.end.Reads as end-reads
 use Rattle.printing.proofs.refusal.Reads as refusal-reads
-use Rattle.turning.proofs.going.Reads as going-reads
+use Rattle.standing.proofs.going.Reads as going-reads
 
 tell-end-requires : tie.Need-tell-end-requires
 tell-end-requires c κs = search needs
@@ -79,8 +79,8 @@ returns-4 c =
     let end = c .before .before .before .before .before .before .next2 .given .0 .0 in
     rw (c .over2 .ensures) (heard-over (a .s) Nothing window literal input (a .out .now) hearing (endText end) (text-ends (a .s .stage) (take (a .s .size) literal) (a .s .searcher .session) window (part (a .s .from) (a .s .to) input) (c .before .before .before .before .before .before .before .before .before .before .before .before .pre .0) (told .result) (told .ensures) end (c .before .before .before .before .before .before .next2 .given .1)) _ _ (c .before .before .before .end .ensures))
 
-pub ended-spec : {M : Type 1} → statement M
-ended-spec =
+pub text-ended-spec : {M : Type 1} → statement M
+text-ended-spec =
     tie.close
     (tie.spec
     tell-end-requires

@@ -6,10 +6,10 @@ use native.Mathlib.Omega.{arith}
 use lib.ListN.{length, drop, length-drop, length-take}
 use Rattle.streams.proofs.Laws.{tail-back}
 use Rattle.search_machine.specs.declared.Phase.the-variants.{Going, Wants, Over}
-use Rattle.searching.proofs.Running.{collects-none, read-in, rests-hearing, rests-written, stepped}
+use Rattle.serving.proofs.Running.{collects-none, read-in, rests-hearing, rests-written, stepped}
 use borrow.Author.Needs.{needs}
-use Rattle.searching.proofs.step.Statement.{statement}
-use Rattle.searching.proofs.step.Tie as tie
+use Rattle.serving.proofs.step.Statement.{statement}
+use Rattle.serving.proofs.step.Tie as tie
 
 enum-told : tie.Need-enum-told
 enum-told c = search needs

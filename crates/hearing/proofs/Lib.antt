@@ -1,0 +1,2 @@
+-- Laws of what a read gave.
+pub mod Hearings
