@@ -17,246 +17,248 @@
 //
 // Words are separated by one space. Numbers are decimal without leading zeros and below 2 to the 64; those that say what
 // is lent or reached (N, FROM, TO, AT, W of lend) lie within the table or the room.
-use crate::words;
-use crate::words::Command;
+//
+// A command is done in two parts: its call, which may change the search, and what is said of it. A line of another form
+// ends the script, and whoever counts the lines says that it is bad.
+use definition::Settings;
 use forms::Asked;
-use forms::Decoded;
-use forms::Number;
+use replay_says::Said;
+use replay_words::Command;
+use replay_words::ROOM;
 use searcher::Searcher;
 use session::Waiting;
 use streams::Pending;
-ghost use Prim.Native.Nat.{_+_, _≤_};
-ghost use Rattle.definition.specs.Rows.{rowSize};
-ghost use lib.ListN.{length};
-ghost use Rattle.io.specs.Counts.{Counts};
-
-// The longest answer is that of `window`, its word and two digits for each byte of the room; a line that says `bad line`
-// still fits behind it.
-const LONGEST_ANSWER: usize = 2 * crate::ROOM + 126;
 
 // How the script stands.
 pub struct Script {
     pub searcher: Searcher,
     // how many bytes of the room are lent
     pub lent: usize,
-    // how many lines were acted on
-    pub lines: u64,
-    // a bad line, the end of the script or a failure came
-    pub over: bool,
-    pub pending: Pending,
+    // what is collected after the last command
+    pub said: Said,
+}
+
+// What a call gave; no more than the search as it was where the command makes none.
+struct Called {
+    searcher: Searcher,
+    lent: usize,
+    refusal: u64,
+    // bytes taken or rows written
+    count: usize,
+    other_form: bool,
 }
 
 pub fn start() -> Script {
     Script {
         searcher: Searcher::closed(),
         lent: 0,
-        lines: 0,
-        over: false,
-        pending: streams::nothing_pending(),
+        said: replay_says::nothing_said(),
     }
 }
 
 // The command of a line.
 pub fn act(
-    state: Script,
+    script: Script,
+    pending: Pending,
     line: &[u8],
     room: &mut [u8],
     table: &mut [u64],
     bytes: &mut [u8],
     out: &mut [u8],
 ) -> Script {
-    let next = counted(state);
-    match words::command_of(line) {
-        Command::Open => open(next, line, room, out),
-        Command::Offer => offer(next, line, room, bytes, out),
-        Command::Waits => waiting(next, room, out),
-        Command::Line => show_line(next, room, out),
-        Command::Answer => answer(next, line, room, table, out),
-        Command::Table => show_table(next, line, table, out),
-        Command::End => end(next, out),
-        Command::Record => record(next, out),
-        Command::Window => show_window(next, room, out),
-        Command::Poke => poke(next, line, room, bytes, out),
-        Command::Lend => lend(next, line, room, out),
-        Command::Unknown => bad(next, out),
+    let command = replay_words::command_of(line, bytes);
+    let called = call(script, command, line, room, table, bytes);
+    let said = say(called, command, pending, room, table, bytes, out);
+    after(called, said)
+}
+
+fn after(called: Called, said: Said) -> Script {
+    let s = called.searcher;
+    Script {
+        searcher: s,
+        lent: called.lent,
+        said: said,
     }
 }
 
-// One line more; no script has so many that the count is full.
-pub fn counted(state: Script) -> Script {
-    let mut next = state;
-    if state.lines < u64::MAX {
-        next.lines = state.lines + 1;
+// The call that a command makes.
+fn call(
+    script: Script,
+    command: Command,
+    line: &[u8],
+    room: &mut [u8],
+    table: &mut [u64],
+    bytes: &[u8],
+) -> Called {
+    match command {
+        Command::Open => open(script, line),
+        Command::Offer(count) => offer(script, room, bytes, count),
+        Command::Answer(hit, size) => answer(script, room, table, hit, size),
+        Command::End => end(script),
+        Command::Lend(length) => standing(script, length, false),
+        _ => standing(script, script.lent, false),
     }
-    next
 }
 
-// Writes what is collected where a command's answer might have no room behind it.
-pub fn with_room(state: Script, out: &[u8]) -> Script {
-    let pending = state.pending;
-    if LONGEST_ANSWER <= out.len() - within(pending.length, out) {
-        return state;
+fn standing(script: Script, lent: usize, other_form: bool) -> Called {
+    let s = script.searcher;
+    Called {
+        searcher: s,
+        lent: lent,
+        refusal: 0,
+        count: 0,
+        other_form: other_form,
     }
-    flushed(state, out)
 }
 
-// Writes what is collected. Where that fails, or a text was lost, the script is over, so that the output has no hole.
-pub fn flushed(state: Script, out: &[u8]) -> Script {
-    let pending = state.pending;
-    let length = within(pending.length, out);
-    let written = streams::write(&out[..length]);
-    let mut next = with_pending(state, streams::nothing_pending());
-    next.over = state.over | pending.lost | !written;
-    next
+fn gave(s: Searcher, lent: usize, refusal: u64, count: usize) -> Called {
+    Called {
+        searcher: s,
+        lent: lent,
+        refusal: refusal,
+        count: count,
+        other_form: false,
+    }
 }
 
-pub fn failed(state: Script, out: &mut [u8], reason: i32) -> Script {
-    let told = streams::tell_failed_read(out, state.pending, reason);
-    flushed(with_pending(state, told), out)
+fn open(script: Script, line: &[u8]) -> Called {
+    match replay_words::settings_of(line) {
+        Asked::For(settings) => open_with(settings, replay_words::window_of(line)),
+        Asked::OtherForm => standing(script, script.lent, true),
+    }
 }
 
-pub fn bad(state: Script, out: &mut [u8]) -> Script {
-    let told = said_number(state, out, b"bad line ", state.lines);
-    let mut next = ended_line(told, out);
-    next.over = true;
-    next
+fn open_with(settings: Settings, window: usize) -> Called {
+    let opened = Searcher::open(settings, window);
+    let s = opened.searcher;
+    gave(s, numbers::least(window, ROOM), opened.refusal, 0)
 }
 
-fn open(state: Script, line: &[u8], room: &[u8], out: &mut [u8]) -> Script {
-    let Asked::For(settings) = words::settings_of(line) else {
-        return bad(state, out);
-    };
-    let Number::Value(length) = forms::number_at(line, 9) else {
-        return bad(state, out);
-    };
-    let opened = Searcher::open(settings, length as usize);
-    let mut next = with_searcher(state, opened.searcher);
-    next.lent = numbers::least(length as usize, room.len());
-    ended_line(said_number(next, out, b"open ", opened.refusal), out)
+fn offer(script: Script, room: &mut [u8], bytes: &[u8], count: usize) -> Called {
+    let s = script.searcher;
+    let window = replay_says::within(script.lent, room);
+    let size = replay_says::within(count, bytes);
+    let offered = s.offer(&mut room[..window], &bytes[..size]);
+    let next = offered.searcher;
+    gave(next, script.lent, offered.refusal, offered.taken)
 }
 
-fn offer(state: Script, line: &[u8], room: &mut [u8], bytes: &mut [u8], out: &mut [u8]) -> Script {
-    let Decoded::Bytes(count) = forms::hex(forms::word(line, 1), bytes) else {
-        return bad(state, out);
-    };
-    let s = state.searcher;
-    let lent = within(state.lent, room);
-    let size = within(count, bytes);
-    let offered = s.offer(&mut room[..lent], &bytes[..size]);
-    let next = with_searcher(state, offered.searcher);
-    let told = said_number(next, out, b"offer ", offered.refusal);
-    ended_line(said_number(told, out, b" ", offered.taken as u64), out)
+fn answer(script: Script, room: &[u8], table: &mut [u64], hit: bool, size: usize) -> Called {
+    let s = script.searcher;
+    let window = replay_says::within(script.lent, room);
+    let lent = numbers::least(size, table.len());
+    let answered = s.answer(&room[..window], &mut table[..lent], hit);
+    let next = answered.searcher;
+    gave(next, script.lent, answered.refusal, answered.rows)
 }
 
-fn waiting(state: Script, room: &[u8], out: &mut [u8]) -> Script {
-    let s = state.searcher;
-    let lent = within(state.lent, room);
-    let told = match s.waiting(&room[..lent]) {
+fn end(script: Script) -> Called {
+    let s = script.searcher;
+    let ended = s.tell_end();
+    let next = ended.searcher;
+    gave(next, script.lent, ended.refusal, 0)
+}
+
+// What is said of a call.
+fn say(
+    called: Called,
+    command: Command,
+    pending: Pending,
+    room: &mut [u8],
+    table: &[u64],
+    bytes: &[u8],
+    out: &mut [u8],
+) -> Said {
+    match command {
+        Command::Open => say_open(called, pending, out),
+        Command::Offer(_) => say_offer(called, pending, out),
+        Command::Answer(_, _) => say_answer(called, pending, table, out),
+        Command::End => say_end(called, pending, out),
+        Command::Table(from, to) => say_table(pending, table, from, to, out),
+        Command::Poke(at, count) => poke(pending, room, at, bytes, count, out),
+        _ => show(called, command, pending, room, out),
+    }
+}
+
+fn say_open(called: Called, pending: Pending, out: &mut [u8]) -> Said {
+    if called.other_form {
+        return replay_says::last_said(pending);
+    }
+    replay_says::more_said(replay_says::said_one(out, pending, b"open ", called.refusal))
+}
+
+fn say_offer(called: Called, pending: Pending, out: &mut [u8]) -> Said {
+    let taken = called.count as u64;
+    let told = replay_says::said_two(out, pending, b"offer ", called.refusal, taken);
+    replay_says::more_said(told)
+}
+
+fn say_answer(called: Called, pending: Pending, table: &[u64], out: &mut [u8]) -> Said {
+    let rows = called.count;
+    let told = replay_says::said_rows(out, pending, b"answer ", called.refusal, table, rows);
+    replay_says::more_said(told)
+}
+
+fn say_end(called: Called, pending: Pending, out: &mut [u8]) -> Said {
+    replay_says::more_said(replay_says::said_one(out, pending, b"end ", called.refusal))
+}
+
+fn say_table(pending: Pending, table: &[u64], first: usize, last: usize, out: &mut [u8]) -> Said {
+    let to = numbers::least(last, table.len());
+    let from = numbers::least(first, to);
+    let told = replay_says::said_numbers(out, pending, b"table", &table[from..to]);
+    replay_says::more_said(told)
+}
+
+fn poke(
+    pending: Pending,
+    room: &mut [u8],
+    place: usize,
+    bytes: &[u8],
+    count: usize,
+    out: &mut [u8],
+) -> Said {
+    let at = replay_says::within(place, room);
+    let size = numbers::least(replay_says::within(count, bytes), room.len() - at);
+    bytes::copy(&bytes[..size], &mut room[at..]);
+    replay_says::more_said(streams::put(out, pending, b"poke\n"))
+}
+
+// What is said of the search as it stands.
+fn show(called: Called, command: Command, pending: Pending, room: &[u8], out: &mut [u8]) -> Said {
+    let lent = replay_says::within(called.lent, room);
+    let window = &room[..lent];
+    match command {
+        Command::Waits => say_waiting(called, pending, window, out),
+        Command::Line => say_line(called, pending, window, out),
+        Command::Record => say_record(called, pending, out),
+        Command::Window => say_bytes(pending, b"window ", window, out),
+        Command::Lend(_) => replay_says::more_said(streams::put(out, pending, b"lend\n")),
+        _ => replay_says::last_said(pending),
+    }
+}
+
+fn say_waiting(called: Called, pending: Pending, window: &[u8], out: &mut [u8]) -> Said {
+    let s = called.searcher;
+    let waits = match s.waiting(window) {
         Waiting::LineWaits => 1,
         Waiting::NoneWaits => 0,
         Waiting::WaitingRefused => 6,
     };
-    ended_line(said_number(state, out, b"waiting ", told), out)
+    replay_says::more_said(replay_says::said_one(out, pending, b"waiting ", waits))
 }
 
-fn show_line(state: Script, room: &[u8], out: &mut [u8]) -> Script {
-    let s = state.searcher;
-    let lent = within(state.lent, room);
-    said_bytes(state, out, b"line ", s.line(&room[..lent]))
+fn say_line(called: Called, pending: Pending, window: &[u8], out: &mut [u8]) -> Said {
+    let s = called.searcher;
+    say_bytes(pending, b"line ", s.line(window), out)
 }
 
-fn answer(state: Script, line: &[u8], room: &[u8], table: &mut [u64], out: &mut [u8]) -> Script {
-    let hit = forms::number_at(line, 1);
-    let Number::Value(size) = forms::number_at(line, 2) else {
-        return bad(state, out);
-    };
-    let numbers = size as usize;
-    if !forms::is_within(hit, 1) {
-        return bad(state, out);
-    }
-    if table.len() < numbers {
-        return bad(state, out);
-    }
-    let s = state.searcher;
-    let lent = within(state.lent, room);
-    let answered = s.answer(&room[..lent], &mut table[..numbers], forms::value(hit) == 1);
-    let next = with_searcher(state, answered.searcher);
-    let told = said_number(next, out, b"answer ", answered.refusal);
-    let counted = said_number(told, out, b" ", answered.rows as u64);
-    ended_line(said_rows(counted, out, table, answered.rows), out)
+fn say_bytes(pending: Pending, name: &[u8], bytes: &[u8], out: &mut [u8]) -> Said {
+    replay_says::more_said(replay_says::said_bytes(out, pending, name, bytes))
 }
 
-fn said_rows(state: Script, out: &mut [u8], table: &[u64], rows: usize) -> Script {
-    let count = numbers::least(rows, table.len() / definition::ROW);
-    let mut told = state;
-    let mut i = 0;
-    while i < count {
-        told = said_row(told, out, table, definition::ROW * i);
-        i += 1;
-    }
-    told
-}
-
-fn said_row(state: Script, out: &mut [u8], table: &[u64], at: usize) -> Script
-    requires { ⌜ at + rowSize ≤ length (now table) ⌝ }
-{
-    said_four(
-        state,
-        out,
-        table[at],
-        table[at + 1],
-        table[at + 2],
-        table[at + 3],
-    )
-}
-
-fn said_four(state: Script, out: &mut [u8], a: u64, b: u64, c: u64, d: u64) -> Script {
-    let first = said_number(state, out, b" ", a);
-    let second = said_number(first, out, b",", b);
-    let third = said_number(second, out, b",", c);
-    said_number(third, out, b",", d)
-}
-
-fn show_table(state: Script, line: &[u8], table: &[u64], out: &mut [u8]) -> Script {
-    let Number::Value(first) = forms::number_at(line, 1) else {
-        return bad(state, out);
-    };
-    let Number::Value(last) = forms::number_at(line, 2) else {
-        return bad(state, out);
-    };
-    let from = first as usize;
-    let to = last as usize;
-    if to < from {
-        return bad(state, out);
-    }
-    if table.len() < to {
-        return bad(state, out);
-    }
-    ended_line(
-        said_numbers(said(state, out, b"table"), out, &table[from..to]),
-        out,
-    )
-}
-
-fn said_numbers(state: Script, out: &mut [u8], numbers: &[u64]) -> Script {
-    let mut told = state;
-    let mut i = 0;
-    while i < numbers.len() {
-        told = said_number(told, out, b" ", numbers[i]);
-        i += 1;
-    }
-    told
-}
-
-fn end(state: Script, out: &mut [u8]) -> Script {
-    let s = state.searcher;
-    let ended = s.tell_end();
-    let next = with_searcher(state, ended.searcher);
-    ended_line(said_number(next, out, b"end ", ended.refusal), out)
-}
-
-fn record(state: Script, out: &mut [u8]) -> Script {
-    let s = state.searcher;
+fn say_record(called: Called, pending: Pending, out: &mut [u8]) -> Said {
+    let s = called.searcher;
     let recorded = s.end_record();
     let end = recorded.end;
     let numbers = [
@@ -268,81 +270,5 @@ fn record(state: Script, out: &mut [u8]) -> Script {
         end.flag,
         end.offset,
     ];
-    let told = said(state, out, b"record");
-    ended_line(said_numbers(told, out, &numbers), out)
-}
-
-fn show_window(state: Script, room: &[u8], out: &mut [u8]) -> Script {
-    let lent = within(state.lent, room);
-    said_bytes(state, out, b"window ", &room[..lent])
-}
-
-fn poke(state: Script, line: &[u8], room: &mut [u8], bytes: &mut [u8], out: &mut [u8]) -> Script {
-    let Number::Value(place) = forms::number_at(line, 1) else {
-        return bad(state, out);
-    };
-    let Decoded::Bytes(count) = forms::hex(forms::word(line, 2), bytes) else {
-        return bad(state, out);
-    };
-    let at = place as usize;
-    if room.len() < at {
-        return bad(state, out);
-    }
-    if room.len() - at < count {
-        return bad(state, out);
-    }
-    let size = within(count, bytes);
-    bytes::copy(&bytes[..size], &mut room[at..]);
-    ended_line(said(state, out, b"poke"), out)
-}
-
-fn lend(state: Script, line: &[u8], room: &[u8], out: &mut [u8]) -> Script {
-    let Number::Value(length) = forms::number_at(line, 1) else {
-        return bad(state, out);
-    };
-    let lent = length as usize;
-    if room.len() < lent {
-        return bad(state, out);
-    }
-    let mut next = state;
-    next.lent = lent;
-    ended_line(said(next, out, b"lend"), out)
-}
-
-fn with_searcher(state: Script, searcher: Searcher) -> Script {
-    let mut next = state;
-    next.searcher = searcher;
-    next
-}
-
-fn with_pending(state: Script, pending: Pending) -> Script {
-    let mut next = state;
-    next.pending = pending;
-    next
-}
-
-fn said(state: Script, out: &mut [u8], text: &[u8]) -> Script {
-    with_pending(state, streams::put(out, state.pending, text))
-}
-
-fn said_number(state: Script, out: &mut [u8], text: &[u8], number: u64) -> Script {
-    let told = streams::put(out, state.pending, text);
-    with_pending(state, streams::put_number(out, told, number))
-}
-
-fn said_bytes(state: Script, out: &mut [u8], text: &[u8], bytes: &[u8]) -> Script {
-    let told = streams::put(out, state.pending, text);
-    ended_line(with_pending(state, streams::put_hex(out, told, bytes)), out)
-}
-
-fn ended_line(state: Script, out: &mut [u8]) -> Script {
-    said(state, out, b"\n")
-}
-
-// As many of some bytes as there are, at most n.
-fn within(n: usize, bytes: &[u8]) -> usize
-    ensures { λ r. ⌜ Counts r (now (bytes .entry)) ⌝ }
-    ensures { λ r. ⌜ r ≤ n ⌝ }
-{
-    numbers::least(n, bytes.len())
+    replay_says::more_said(replay_says::said_numbers(out, pending, b"record", &numbers))
 }

@@ -1,22 +1,35 @@
-// A command's words: which command it is, and the settings of an opening.
+// A line of a script for `replay`, as words: which command it is, with its numbers, and the settings of an opening. What
+// each command does is in `replaying`.
 use definition::Binary;
 use definition::Settings;
 use forms::Asked;
 use forms::Bound;
+use forms::Decoded;
 use forms::Number;
 
+// The room that is lent from: one byte more than a window may have.
+pub const ROOM: usize = definition::MAX_WINDOW + 1;
+
+// Two rows more than an answer gives, which is at most so many before, a break and a match.
+pub const TABLE: usize = definition::ROW * (definition::MAX_CONTEXT + 4);
+
+// What a line asks for. Bytes that it writes stand at the front of the bytes lent to `command_of`.
 pub enum Command {
     Open,
-    Offer,
+    // so many bytes
+    Offer(usize),
     Waits,
     Line,
-    Answer,
-    Table,
+    // whether the line is wanted, and how many numbers of the table are lent
+    Answer(bool, usize),
+    // from and to
+    Table(usize, usize),
     End,
     Record,
     Window,
-    Poke,
-    Lend,
+    // where, and so many bytes
+    Poke(usize, usize),
+    Lend(usize),
     Unknown,
 }
 
@@ -26,12 +39,12 @@ enum Marks {
 }
 
 // A command is told by its name and the number of its words.
-pub fn command_of(line: &[u8]) -> Command {
+pub fn command_of(line: &[u8], bytes: &mut [u8]) -> Command {
     let name = forms::word(line, 0);
     match forms::spaces(line) {
         0 => of_one_word(name),
-        1 => of_two_words(name),
-        2 => of_three_words(name),
+        1 => of_two_words(name, forms::word(line, 1), bytes),
+        2 => of_three_words(name, forms::number_at(line, 1), forms::word(line, 2), bytes),
         9 => of_ten_words(name),
         _ => Command::Unknown,
     }
@@ -56,25 +69,25 @@ fn of_one_word(name: &[u8]) -> Command {
     Command::Unknown
 }
 
-fn of_two_words(name: &[u8]) -> Command {
+fn of_two_words(name: &[u8], word: &[u8], bytes: &mut [u8]) -> Command {
     if is(name, b"offer") {
-        return Command::Offer;
+        return offer_of(forms::hex(word, bytes));
     }
     if is(name, b"lend") {
-        return Command::Lend;
+        return lend_of(forms::decimal(word));
     }
     Command::Unknown
 }
 
-fn of_three_words(name: &[u8]) -> Command {
+fn of_three_words(name: &[u8], first: Number, word: &[u8], bytes: &mut [u8]) -> Command {
     if is(name, b"answer") {
-        return Command::Answer;
+        return answer_of(first, forms::decimal(word));
     }
     if is(name, b"poke") {
-        return Command::Poke;
+        return poke_of(first, forms::hex(word, bytes));
     }
     if is(name, b"table") {
-        return Command::Table;
+        return table_of(first, forms::decimal(word));
     }
     Command::Unknown
 }
@@ -84,6 +97,48 @@ fn of_ten_words(name: &[u8]) -> Command {
         return Command::Open;
     }
     Command::Unknown
+}
+
+fn offer_of(piece: Decoded) -> Command {
+    match piece {
+        Decoded::Bytes(count) => Command::Offer(count),
+        Decoded::NoBytes => Command::Unknown,
+    }
+}
+
+fn lend_of(length: Number) -> Command {
+    if forms::is_within(length, ROOM as u64) {
+        return Command::Lend(forms::value(length) as usize);
+    }
+    Command::Unknown
+}
+
+fn answer_of(hit: Number, size: Number) -> Command {
+    if is_flag(hit) & forms::is_within(size, TABLE as u64) {
+        return Command::Answer(forms::value(hit) == 1, forms::value(size) as usize);
+    }
+    Command::Unknown
+}
+
+fn table_of(first: Number, last: Number) -> Command {
+    if forms::is_within(first, forms::value(last)) & forms::is_within(last, TABLE as u64) {
+        return Command::Table(forms::value(first) as usize, forms::value(last) as usize);
+    }
+    Command::Unknown
+}
+
+fn poke_of(place: Number, piece: Decoded) -> Command {
+    let Decoded::Bytes(count) = piece else {
+        return Command::Unknown;
+    };
+    if !forms::is_within(place, ROOM as u64) {
+        return Command::Unknown;
+    }
+    let at = numbers::least(forms::value(place) as usize, ROOM);
+    if ROOM - at < count {
+        return Command::Unknown;
+    }
+    Command::Poke(at, count)
 }
 
 fn is(word: &[u8], name: &[u8]) -> bool {
@@ -100,7 +155,7 @@ fn is(word: &[u8], name: &[u8]) -> bool {
     true
 }
 
-// The settings that the words of an opening ask for.
+// The settings that the words of an opening ask for, where the window's length, its last word, is a number too.
 pub fn settings_of(line: &[u8]) -> Asked {
     let before = forms::number_at(line, 1);
     let after = forms::number_at(line, 2);
@@ -108,9 +163,11 @@ pub fn settings_of(line: &[u8]) -> Asked {
     let pass = forms::number_at(line, 4);
     let stop = forms::number_at(line, 5);
     let terminator = forms::number_at(line, 7);
+    let window = forms::number_at(line, 9);
     let numbers = forms::is_number(before)
         & forms::is_number(after)
-        & forms::is_within(terminator, 255);
+        & forms::is_within(terminator, 255)
+        & forms::is_number(window);
     let flags = is_flag(invert) & is_flag(pass) & is_flag(stop);
     if !(numbers & flags) {
         return Asked::OtherForm;
@@ -132,6 +189,11 @@ pub fn settings_of(line: &[u8]) -> Asked {
         binary: binary,
         ..plain
     })
+}
+
+// The window's length, the last word of an opening.
+pub fn window_of(line: &[u8]) -> usize {
+    forms::value(forms::number_at(line, 9)) as usize
 }
 
 fn is_flag(number: Number) -> bool {

@@ -3,8 +3,8 @@ use native.Mathlib.Omega.{arith}
 use Prim.Native.Nat.{_-_, _≤_}
 use lib.ListN.{length}
 use native.Mathlib.Omega.{arith}
-use Rattle.replaying.proofs.words.is.Statement.{statement}
-use Rattle.replaying.proofs.words.is.Tie as tie
+use Rattle.replay_words.proofs.is.Statement.{statement}
+use Rattle.replay_words.proofs.is.Tie as tie
 
 abbrev Inv-loop : tie.InvT-loop
 Inv-loop word name i₀ i = i ≤ length word

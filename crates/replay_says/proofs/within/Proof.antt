@@ -2,8 +2,8 @@
 use native.Mathlib.Omega.{arith}
 use lib.ListN.{length-take}
 use borrow.Author.Needs.{needs}
-use Rattle.replaying.proofs.command.within.Statement.{statement}
-use Rattle.replaying.proofs.command.within.Tie as tie
+use Rattle.replay_says.proofs.within.Statement.{statement}
+use Rattle.replay_says.proofs.within.Tie as tie
 
 least-requires : tie.Need-least-requires
 least-requires c κs = search needs
