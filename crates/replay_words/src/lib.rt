@@ -6,6 +6,9 @@ use forms::Asked;
 use forms::Bound;
 use forms::Decoded;
 use forms::Number;
+ghost use mathlib.Core.Path.{_≡_};
+ghost use Rattle.forms.specs.Numbers.{withinOf};
+ghost use Rattle.replay_words.specs.Commands.{answerOf, byteOf, lendOf, offerOf, tableOf};
 
 // The room that is lent from: one byte more than a window may have.
 pub const ROOM: usize = definition::MAX_WINDOW + 1;
@@ -99,28 +102,36 @@ fn of_ten_words(name: &[u8]) -> Command {
     Command::Unknown
 }
 
-fn offer_of(piece: Decoded) -> Command {
+fn offer_of(piece: Decoded) -> Command
+    ensures { λ r. ⌜ r ≡ offerOf piece ⌝ }
+{
     match piece {
         Decoded::Bytes(count) => Command::Offer(count),
         Decoded::NoBytes => Command::Unknown,
     }
 }
 
-fn lend_of(length: Number) -> Command {
+fn lend_of(length: Number) -> Command
+    ensures { λ r. ⌜ r ≡ lendOf length ⌝ }
+{
     if forms::is_within(length, ROOM as u64) {
         return Command::Lend(forms::value(length) as usize);
     }
     Command::Unknown
 }
 
-fn answer_of(hit: Number, size: Number) -> Command {
+fn answer_of(hit: Number, size: Number) -> Command
+    ensures { λ r. ⌜ r ≡ answerOf hit size ⌝ }
+{
     if is_flag(hit) & forms::is_within(size, TABLE as u64) {
         return Command::Answer(forms::value(hit) == 1, forms::value(size) as usize);
     }
     Command::Unknown
 }
 
-fn table_of(first: Number, last: Number) -> Command {
+fn table_of(first: Number, last: Number) -> Command
+    ensures { λ r. ⌜ r ≡ tableOf first last ⌝ }
+{
     if forms::is_within(first, forms::value(last)) & forms::is_within(last, TABLE as u64) {
         return Command::Table(forms::value(first) as usize, forms::value(last) as usize);
     }
@@ -196,11 +207,15 @@ pub fn window_of(line: &[u8]) -> usize {
     forms::value(forms::number_at(line, 9)) as usize
 }
 
-fn is_flag(number: Number) -> bool {
+fn is_flag(number: Number) -> bool
+    ensures { λ r. ⌜ r ≡ withinOf number 1 ⌝ }
+{
     forms::is_within(number, 1)
 }
 
-fn byte(number: Number) -> u8 {
+fn byte(number: Number) -> u8
+    ensures { λ r. ⌜ r ≡ byteOf number ⌝ }
+{
     let n = forms::value(number);
     if n < 256 { n as u8 } else { 0 }
 }
