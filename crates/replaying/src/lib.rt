@@ -29,7 +29,7 @@ pub fn play() {
 
 // Turns are a bound for the proof: nothing lasts so long.
 fn run(room: &mut [u8], table: &mut [u64], bytes: &mut [u8], input: &mut [u8], out: &mut [u8]) {
-    let mut script = command::start();
+    let mut script = replay_calls::start();
     let mut reading = replay_input::nothing_read();
     let mut turns = u64::MAX;
     while 0 < turns {

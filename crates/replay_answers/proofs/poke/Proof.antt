@@ -3,8 +3,8 @@ use Prim.Native.Nat.{_-_}
 use native.Mathlib.Omega.{arith}
 use lib.ListN.{length, drop, length-drop, length-take}
 use borrow.Author.Needs.{needs}
-use Rattle.replaying.proofs.command.poke.Statement.{statement}
-use Rattle.replaying.proofs.command.poke.Tie as tie
+use Rattle.replay_answers.proofs.poke.Statement.{statement}
+use Rattle.replay_answers.proofs.poke.Tie as tie
 
 within-requires : tie.Need-within-requires
 within-requires c κs = search needs

@@ -2,8 +2,8 @@
 use native.Mathlib.Omega.{arith}
 use lib.ListN.{length-take}
 use borrow.Author.Needs.{needs}
-use Rattle.replaying.proofs.command.answer.Statement.{statement}
-use Rattle.replaying.proofs.command.answer.Tie as tie
+use Rattle.replay_calls.proofs.answer.Statement.{statement}
+use Rattle.replay_calls.proofs.answer.Tie as tie
 
 within-requires : tie.Need-within-requires
 within-requires c κs = search needs
