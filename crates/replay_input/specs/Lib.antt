@@ -1,0 +1,2 @@
+-- What a read did to the input, and where a line ends in it.
+pub mod Input

@@ -1,0 +1,2 @@
+-- What the words of a line ask for.
+pub mod Commands
