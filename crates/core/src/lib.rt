@@ -1,6 +1,6 @@
 // The core that every way in shares, as the Rust's `Core`: a walk, how far a search has come through its lines, and one line
 // answered from there, as plain data. It knows no window: bytes are lent, wherever they lie. What is done is in specs/, as
-// functions of these; `agreeing`, `ahead`, `stepping` and `giving` do it.
+// functions of these; `agreeing`, `ahead`, `stepping`, `match_rows` and `giving` do it.
 use definition::Fate;
 use definition::Going;
 use definition::Settings;

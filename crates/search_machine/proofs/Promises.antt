@@ -1,35 +1,34 @@
 -- The promises of specs/Promises.antt: the first two lines, read by read, then what every program over the driver is promised.
 use Prim.Native.Nat.{ℕ, zero, suc, _+_, _*_, _≤_, _<_}
 use mathlib.Core.Path.{_≡_, refl, sym, _∙_, ap, subst}
-use mathlib.Core.Bool.{Bool, true, false, cond}
+use mathlib.Core.Bool.{Bool, true, false}
 use mathlib.Core.List.{List, [], _∷_, _++_, append-assoc, append-nil}
 use native.Mathlib.Omega.{arith}
 use lib.Dec.{eqb}
 use lib.ListN.{length, take, drop, length-append, length-drop}
 use lib.Seq.{drop-append-le, take-append-le}
-use borrow.Author.Tests.{eq-eqb, eqb-false, eqb-true, ne-eqb}
+use borrow.Author.Tests.{eqb-true}
 use Rattle.definition.specs.declared.Settings.{Settings}
 use Rattle.definition.specs.Text.{firstPlace}
 use Rattle.forms.specs.declared.Asked.{Asked}
 use Rattle.forms.specs.declared.Asked.the-variants.{For, OtherForm}
 use Rattle.forms.specs.First.{askedOf}
-use Rattle.machine.specs.Machine.{Machine, Read, Turn, ended, ends, failed, goes, run, some, wants}
-use Rattle.machine.specs.Program.{Program, Standing, begins, driver, hears, turns}
-use Rattle.machine.specs.Promises.{Ending, Prints, broken, bytesOf, endingOf, unended, whole}
+use Rattle.machine.specs.Machine.{Read, Turn, ended, ends, failed, goes, run, some, wants}
+use Rattle.machine.specs.Program.{Standing, begins, driver, hears, turns}
+use Rattle.machine.specs.Promises.{Ending, Prints, bytesOf, endingOf, whole}
 use Rattle.machine.proofs.Promises.{one-text, printed}
 use Rattle.machine.proofs.Runs.{run-ends, run-goes, run-hears, run-waits}
-use Rattle.session.specs.declared.Session.{Session}
 use Rattle.session.specs.Calls.{opened}
 use Rattle.session.specs.Sound.{closed}
 use Rattle.streams.specs.Moves.{failedRead}
 use Rattle.search_machine.specs.declared.Seen.{Seen}
 use Rattle.search_machine.specs.declared.Seen.the-variants.{Whole, Unfinished, TooLong}
 use Rattle.search_machine.specs.declared.Stage.the-variants.{First, Second, Text}
-use Rattle.search_machine.specs.Head.{longest, lookedAt}
-use Rattle.search_machine.specs.Promises.{Heading, SearchPrints, Searched, SearchedAlike, askedLine, bad, firstLine, good, headingOf, searchEnough, secondLine, short, shortText}
+use Rattle.search_machine.specs.Head.{lookedAt}
+use Rattle.search_machine.specs.Promises.{Heading, SearchPrints, Searched, SearchedAlike, askedLine, bad, firstLine, good, headingOf, secondLine, short, shortText}
 use Rattle.search_machine.specs.Search.{State, asks, firstTurn, hearsOf, inText, search, searchFor, secondTurn, starts, turnOf, windowSize}
 use Rattle.printing.specs.Texts.{newline, refusedText}
-use Rattle.search_machine.proofs.Looked.{Looks, begins as unfinished-yet, ends as whole-yet, long-more, looks, looks-is, passes, whole-more}
+use Rattle.search_machine.proofs.Looked.{Looks, begins as unfinished-yet, ends as whole-yet, long-more, looks, passes, whole-more}
 
 -- # The text
 

@@ -3,7 +3,7 @@ use Prim.Native.Nat.{ℕ, zero, suc, _+_}
 use mathlib.Core.Path.{_≡_, refl, sym, _∙_, ap, subst}
 use mathlib.Core.List.{List, [], _∷_, _++_, append-assoc, append-nil}
 use native.Mathlib.Omega.{arith}
-use Rattle.machine.specs.Machine.{Read, Turn, ended, ends, failed, goes, run, some, wants}
+use Rattle.machine.specs.Machine.{Read, Turn, ended, ends, failed, run, some, wants}
 use Rattle.definition.specs.Text.{part}
 use Rattle.streams.specs.declared.Moved.{Moved}
 use Rattle.streams.specs.declared.Moved.the-variants.{Bytes, Nothing, Interrupted, Failed}

@@ -7,9 +7,6 @@ use native.Mathlib.Omega.{arith}
 use lib.Dec.{ltb, leb, eqb}
 use lib.ListN.{length, drop, length-take}
 use borrow.Author.Tests.{ltb-true, leb-true, eqb-true, eq-eqb}
-use Rattle.definition.specs.declared.Fate.{Fate}
-use Rattle.definition.specs.declared.Going.{Going}
-use Rattle.definition.specs.declared.Limit.{Limit}
 use Rattle.definition.specs.declared.Settings.{Settings}
 use Rattle.definition.specs.Bounds.{allowed, maxInput, maxWindow}
 use Rattle.definition.specs.Rows.{rowSize}

@@ -6,7 +6,7 @@ use mathlib.Core.List.{List, [], append-nil}
 use mathlib.Core.Logic.{_⊎_, inl, inr, ⊎-elim}
 use native.Mathlib.Omega.{arith}
 use lib.Dec.{leb, ltb}
-use lib.ListN.{length, take, length-append, length-take}
+use lib.ListN.{length, take}
 use borrow.Author.Tests.{leb-false, ltb-false}
 use Rattle.definition.specs.declared.End.{End}
 use Rattle.definition.specs.Text.{part}
@@ -19,12 +19,10 @@ use Rattle.machine.specs.Machine.{Leads}
 use Rattle.machine.specs.Program.{fed, fedWindow}
 use Rattle.searcher.specs.declared.Answered.{Answered}
 use Rattle.searcher.specs.declared.Searcher.{Searcher}
-use Rattle.session.specs.declared.Session.{Session}
 use Rattle.session.proofs.Parts.{part-drop, part-length}
 use Rattle.output.specs.declared.Pending.{Pending}
 use Rattle.output.specs.Output.{Tells}
 use Rattle.search_machine.specs.declared.Search.{Search}
-use Rattle.search_machine.specs.declared.Stage.{Stage}
 use Rattle.search_machine.specs.Head.{longest}
 use Rattle.search_machine.specs.Search.{State, search, stateAt}
 use Rattle.search_machine.specs.Standing.{Ready, Turned, goingWith, overWith, seen, turnMost, wantingWith}

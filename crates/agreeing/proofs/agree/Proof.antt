@@ -4,11 +4,6 @@ use Rattle.core.proofs.Laws.{joined-every}
 use borrow.Author.Needs.{needs}
 use Rattle.agreeing.proofs.agree.Statement.{statement}
 use Rattle.agreeing.proofs.agree.Tie as tie
-use Rattle.agreeing.proofs.agree.Reads as reads
-use Rattle.agreeing.proofs.agree.Lts as lts
-use Rattle.agreeing.proofs.are_allowed.Reads as are-allowed-reads
-use Rattle.agreeing.proofs.within_limit.Reads as within-limit-reads
-use Rattle.agreeing.proofs.within_size.Reads as within-size-reads
 
 are-allowed-requires : tie.Need-are-allowed-requires
 are-allowed-requires c κs = search needs

@@ -3,10 +3,6 @@ use Rattle.definition.specs.Bounds.{allowed}
 use borrow.Author.Needs.{needs}
 use Rattle.agreeing.proofs.are_allowed.Statement.{statement}
 use Rattle.agreeing.proofs.are_allowed.Tie as tie
-use Rattle.agreeing.proofs.are_allowed.Reads as reads
-use Rattle.agreeing.proofs.are_allowed.Lts as lts
-use Rattle.agreeing.proofs.has_context.Reads as has-context-reads
-use Rattle.agreeing.proofs.limit_in_range.Reads as limit-in-range-reads
 
 limit-in-range-requires : tie.Need-limit-in-range-requires
 limit-in-range-requires c κs = search needs

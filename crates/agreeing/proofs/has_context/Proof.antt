@@ -3,8 +3,6 @@ use mathlib.Core.Path.{refl}
 use Rattle.definition.specs.Bounds.{contextual}
 use Rattle.agreeing.proofs.has_context.Statement.{statement}
 use Rattle.agreeing.proofs.has_context.Tie as tie
-use Rattle.agreeing.proofs.has_context.Reads as reads
-use Rattle.agreeing.proofs.has_context.Lts as lts
 
 returns : tie.Need-returns
 unfolding contextual

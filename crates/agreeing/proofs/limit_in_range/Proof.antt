@@ -2,8 +2,6 @@
 use borrow.Author.Needs.{needs}
 use Rattle.agreeing.proofs.limit_in_range.Statement.{statement}
 use Rattle.agreeing.proofs.limit_in_range.Tie as tie
-use Rattle.agreeing.proofs.limit_in_range.Reads as reads
-use Rattle.agreeing.proofs.limit_in_range.Lts as lts
 
 enum-told : tie.Need-enum-told
 enum-told c = search needs

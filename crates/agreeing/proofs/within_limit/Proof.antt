@@ -2,8 +2,6 @@
 use borrow.Author.Needs.{needs}
 use Rattle.agreeing.proofs.within_limit.Statement.{statement}
 use Rattle.agreeing.proofs.within_limit.Tie as tie
-use Rattle.agreeing.proofs.within_limit.Reads as reads
-use Rattle.agreeing.proofs.within_limit.Lts as lts
 
 enum-told : tie.Need-enum-told
 enum-told c = search needs

@@ -7,8 +7,6 @@ use Rattle.definition.specs.Bounds.{maxInput}
 use Rattle.agreeing.proofs.Laws.{leb-moved}
 use Rattle.agreeing.proofs.within_size.Statement.{statement}
 use Rattle.agreeing.proofs.within_size.Tie as tie
-use Rattle.agreeing.proofs.within_size.Reads as reads
-use Rattle.agreeing.proofs.within_size.Lts as lts
 
 returns : tie.Need-returns
 returns c = sym (lt-leb (c .before .args .bytes + c .before .args .ahead) maxInput (omega arith))

@@ -2,9 +2,6 @@
 use borrow.Author.Needs.{needs}
 use Rattle.ahead.proofs.cause_of.Statement.{statement}
 use Rattle.ahead.proofs.cause_of.Tie as tie
-use Rattle.ahead.proofs.cause_of.Reads as reads
-use Rattle.ahead.proofs.cause_of.Lts as lts
-use Rattle.ahead.proofs.input_cause.Reads as input-cause-reads
 
 enum-told : tie.Need-enum-told
 enum-told c = search needs

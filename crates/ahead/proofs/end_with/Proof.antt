@@ -3,9 +3,6 @@ use Rattle.core.specs.Walk.{walkEnd}
 use borrow.Author.Needs.{needs}
 use Rattle.ahead.proofs.end_with.Statement.{statement}
 use Rattle.ahead.proofs.end_with.Tie as tie
-use Rattle.ahead.proofs.end_with.Reads as reads
-use Rattle.ahead.proofs.end_with.Lts as lts
-use Rattle.ahead.proofs.ended.Reads as ended-reads
 
 enum-told : tie.Need-enum-told
 enum-told c = search needs

@@ -3,9 +3,6 @@ use Rattle.core.specs.Walk.{remainsAhead}
 use borrow.Author.Needs.{needs}
 use Rattle.ahead.proofs.is_unfinished.Statement.{statement}
 use Rattle.ahead.proofs.is_unfinished.Tie as tie
-use Rattle.ahead.proofs.is_unfinished.Reads as reads
-use Rattle.ahead.proofs.is_unfinished.Lts as lts
-use Rattle.ahead.proofs.is_on.Reads as is-on-reads
 
 is-on-requires : tie.Need-is-on-requires
 is-on-requires c κs = search needs

@@ -10,10 +10,6 @@ use Rattle.core.proofs.Laws.{waits-line, waits-none}
 use borrow.Author.Needs.{needs}
 use Rattle.ahead.proofs.line.Statement.{statement}
 use Rattle.ahead.proofs.line.Tie as tie
-use Rattle.ahead.proofs.line.Reads as reads
-use Rattle.ahead.proofs.line.Lts as lts
-use Rattle.ahead.proofs.next_line.Reads as next-line-reads
-use Rattle.lines.proofs.without_terminator.Reads as without-terminator-reads
 
 next-line-requires : tie.Need-next-line-requires
 next-line-requires c κs = search needs

@@ -11,11 +11,6 @@ use Rattle.ahead.proofs.Laws.{line-found, line-none, line-rest}
 use borrow.Author.Needs.{needs}
 use Rattle.ahead.proofs.next_line.Statement.{statement}
 use Rattle.ahead.proofs.next_line.Tie as tie
-use Rattle.ahead.proofs.next_line.Reads as reads
-use Rattle.ahead.proofs.next_line.Lts as lts
-use Rattle.ahead.proofs.is_on.Reads as is-on-reads
-use Rattle.ahead.proofs.rest.Reads as rest-reads
-use Rattle.lines.proofs.find.Reads as find-reads
 
 is-on-requires : tie.Need-is-on-requires
 is-on-requires c κs = search needs

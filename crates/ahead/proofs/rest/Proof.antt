@@ -1,8 +1,6 @@
 -- A rest counts where no more comes and it has bytes.
 use Rattle.ahead.proofs.rest.Statement.{statement}
 use Rattle.ahead.proofs.rest.Tie as tie
-use Rattle.ahead.proofs.rest.Reads as reads
-use Rattle.ahead.proofs.rest.Lts as lts
 
 returns : tie.Need-returns
 returns c = rw (c .if1 .taken)

@@ -13,12 +13,6 @@ use Rattle.answering.proofs.Laws.{answered-refused}
 use borrow.Author.Needs.{needs}
 use Rattle.answering.proofs.answer.Statement.{statement}
 use Rattle.answering.proofs.answer.Tie as tie
-use Rattle.answering.proofs.answer.Reads as reads
-use Rattle.answering.proofs.answer.Lts as lts
-use Rattle.answering.proofs.give.Reads as give-reads
-use Rattle.answering.proofs.refused.Reads as refused-reads
-use Rattle.held.proofs.is_sound.Reads as is-sound-reads
-use Rattle.held.proofs.next_line.Reads as next-line-reads
 
 is-sound-requires : tie.Need-is-sound-requires
 is-sound-requires c κs = search needs

@@ -16,13 +16,6 @@ use Rattle.answering.proofs.Laws.{given-refused, given-served, table-gi
 use borrow.Author.Needs.{needs}
 use Rattle.answering.proofs.give.Statement.{statement}
 use Rattle.answering.proofs.give.Tie as tie
-use Rattle.answering.proofs.give.Reads as reads
-use Rattle.answering.proofs.give.Lts as lts
-use Rattle.answering.proofs.places_next.Reads as places-next-reads
-use Rattle.stepping.proofs.gets_row.Reads as gets-row-reads
-use Rattle.stepping.proofs.step.Reads as step-reads
-use Rattle.answering.proofs.refused.Reads as refused-reads
-use Rattle.giving.proofs.answer.Reads as answer-reads
 
 sub-answer : tie.Need-sub-answer
 sub-answer c = search needs

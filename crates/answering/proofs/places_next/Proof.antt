@@ -3,8 +3,6 @@ use Rattle.session.specs.Calls.{placesNext}
 use borrow.Author.Needs.{needs}
 use Rattle.answering.proofs.places_next.Statement.{statement}
 use Rattle.answering.proofs.places_next.Tie as tie
-use Rattle.answering.proofs.places_next.Reads as reads
-use Rattle.answering.proofs.places_next.Lts as lts
 
 add-next : tie.Need-add-next
 add-next c = search needs

@@ -13,11 +13,6 @@ use Rattle.asking.proofs.Laws.{at-front, shown-refused, shown-served}
 use borrow.Author.Needs.{needs}
 use Rattle.asking.proofs.line.Statement.{statement}
 use Rattle.asking.proofs.line.Tie as tie
-use Rattle.asking.proofs.line.Reads as reads
-use Rattle.asking.proofs.line.Lts as lts
-use Rattle.ahead.proofs.line.Reads as line-reads
-use Rattle.held.proofs.is_open.Reads as is-open-reads
-use Rattle.held.proofs.is_sound.Reads as is-sound-reads
 
 is-sound-requires : tie.Need-is-sound-requires
 is-sound-requires c κs = search needs

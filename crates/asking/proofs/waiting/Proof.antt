@@ -12,10 +12,6 @@ use Rattle.asking.proofs.Laws.{waiting-line, waiting-none, waiting-refu
 use borrow.Author.Needs.{needs}
 use Rattle.asking.proofs.waiting.Statement.{statement}
 use Rattle.asking.proofs.waiting.Tie as tie
-use Rattle.asking.proofs.waiting.Reads as reads
-use Rattle.asking.proofs.waiting.Lts as lts
-use Rattle.held.proofs.is_sound.Reads as is-sound-reads
-use Rattle.held.proofs.next_line.Reads as next-line-reads
 
 is-sound-requires : tie.Need-is-sound-requires
 is-sound-requires c κs = search needs

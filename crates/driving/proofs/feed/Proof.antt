@@ -4,11 +4,6 @@ use Rattle.driving.proofs.Laws.{fed-ends, fed-offers, fed-refused, fed-
 use borrow.Author.Needs.{needs}
 use Rattle.driving.proofs.feed.Statement.{statement}
 use Rattle.driving.proofs.feed.Tie as tie
-use Rattle.driving.proofs.feed.Reads as reads
-use Rattle.driving.proofs.feed.Lts as lts
-use Rattle.driving.proofs.offer.Reads as offer-reads
-use Rattle.driving.proofs.unchanged.Reads as unchanged-reads
-use Rattle.searcher.proofs.Searcher.end_record.Reads as end-record-reads
 
 unchanged-requires : tie.Need-unchanged-requires
 unchanged-requires c κs = search needs

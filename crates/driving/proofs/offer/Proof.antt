@@ -5,10 +5,6 @@ use Rattle.driving.proofs.Laws.{by-refused, by-served}
 use borrow.Author.Needs.{needs}
 use Rattle.driving.proofs.offer.Statement.{statement}
 use Rattle.driving.proofs.offer.Tie as tie
-use Rattle.driving.proofs.offer.Reads as reads
-use Rattle.driving.proofs.offer.Lts as lts
-use Rattle.driving.proofs.unchanged.Reads as unchanged-reads
-use Rattle.searcher.proofs.Searcher.offer.Reads as offer-reads
 
 offer-requires : tie.Need-offer-requires
 offer-requires c κs = search needs

@@ -4,10 +4,6 @@ use Rattle.driving.proofs.Laws.{end-refused, end-served}
 use borrow.Author.Needs.{needs}
 use Rattle.driving.proofs.tell_end.Statement.{statement}
 use Rattle.driving.proofs.tell_end.Tie as tie
-use Rattle.driving.proofs.tell_end.Reads as reads
-use Rattle.driving.proofs.tell_end.Lts as lts
-use Rattle.driving.proofs.unchanged.Reads as unchanged-reads
-use Rattle.searcher.proofs.Searcher.tell_end.Reads as tell-end-reads
 
 tell-end-requires : tie.Need-tell-end-requires
 tell-end-requires c κs = search needs

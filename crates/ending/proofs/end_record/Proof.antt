@@ -9,13 +9,6 @@ use Rattle.ending.proofs.Laws.{recorded-0, recorded-6, recorded-7}
 use borrow.Author.Needs.{needs}
 use Rattle.ending.proofs.end_record.Statement.{statement}
 use Rattle.ending.proofs.end_record.Tie as tie
-use Rattle.ending.proofs.end_record.Reads as reads
-use Rattle.ending.proofs.end_record.Lts as lts
-use Rattle.ahead.proofs.is_unfinished.Reads as is-unfinished-reads
-use Rattle.held.proofs.agree.Reads as agree-reads
-use Rattle.held.proofs.is_open.Reads as is-open-reads
-use Rattle.ending.proofs.record_of.Reads as record-of-reads
-use Rattle.ending.proofs.unrecorded.Reads as unrecorded-reads
 
 agree-requires : tie.Need-agree-requires
 agree-requires c κs = search needs

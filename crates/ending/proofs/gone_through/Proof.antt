@@ -2,9 +2,6 @@
 use borrow.Author.Needs.{needs}
 use Rattle.ending.proofs.gone_through.Statement.{statement}
 use Rattle.ending.proofs.gone_through.Tie as tie
-use Rattle.ending.proofs.gone_through.Reads as reads
-use Rattle.ending.proofs.gone_through.Lts as lts
-use Rattle.ending.proofs.only_if.Reads as only-if-reads
 
 enum-told : tie.Need-enum-told
 enum-told c = search needs

@@ -2,8 +2,6 @@
 use borrow.Author.Needs.{needs}
 use Rattle.ending.proofs.only_if.Statement.{statement}
 use Rattle.ending.proofs.only_if.Tie as tie
-use Rattle.ending.proofs.only_if.Reads as reads
-use Rattle.ending.proofs.only_if.Lts as lts
 
 returns : tie.Need-returns
 returns c = rw (c .if1 .taken)

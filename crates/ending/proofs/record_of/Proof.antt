@@ -3,12 +3,6 @@ use Rattle.session.specs.Calls.{recordOf}
 use borrow.Author.Needs.{needs}
 use Rattle.ending.proofs.record_of.Statement.{statement}
 use Rattle.ending.proofs.record_of.Tie as tie
-use Rattle.ending.proofs.record_of.Reads as reads
-use Rattle.ending.proofs.record_of.Lts as lts
-use Rattle.ahead.proofs.cause_of.Reads as cause-of-reads
-use Rattle.ahead.proofs.end_with.Reads as end-with-reads
-use Rattle.ending.proofs.is_quit.Reads as is-quit-reads
-use Rattle.ending.proofs.recorded_place.Reads as recorded-place-reads
 
 is-quit-requires : tie.Need-is-quit-requires
 is-quit-requires c κs = search needs

@@ -6,10 +6,6 @@ use Rattle.session.specs.Calls.{recordedPlace}
 use borrow.Author.Needs.{needs}
 use Rattle.ending.proofs.recorded_place.Statement.{statement}
 use Rattle.ending.proofs.recorded_place.Tie as tie
-use Rattle.ending.proofs.recorded_place.Reads as reads
-use Rattle.ending.proofs.recorded_place.Lts as lts
-use Rattle.held.proofs.taken_bytes.Reads as taken-bytes-reads
-use Rattle.ending.proofs.gone_through.Reads as gone-through-reads
 
 taken-bytes-requires : tie.Need-taken-bytes-requires
 taken-bytes-requires c κs = search needs

@@ -5,10 +5,6 @@ use Rattle.ending.proofs.Laws.{told-refused, told-served}
 use borrow.Author.Needs.{needs}
 use Rattle.ending.proofs.tell_end.Statement.{statement}
 use Rattle.ending.proofs.tell_end.Tie as tie
-use Rattle.ending.proofs.tell_end.Reads as reads
-use Rattle.ending.proofs.tell_end.Lts as lts
-use Rattle.held.proofs.agree.Reads as agree-reads
-use Rattle.ending.proofs.told_session.Reads as told-session-reads
 
 agree-requires : tie.Need-agree-requires
 agree-requires c κs = search needs

@@ -3,9 +3,6 @@ use Rattle.session.specs.Calls.{toldSession}
 use borrow.Author.Needs.{needs}
 use Rattle.ending.proofs.told_session.Statement.{statement}
 use Rattle.ending.proofs.told_session.Tie as tie
-use Rattle.ending.proofs.told_session.Reads as reads
-use Rattle.ending.proofs.told_session.Lts as lts
-use Rattle.ending.proofs.input_told.Reads as input-told-reads
 
 input-told-requires : tie.Need-input-told-requires
 input-told-requires c κs = search needs

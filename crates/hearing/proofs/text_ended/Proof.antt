@@ -7,13 +7,6 @@ use Rattle.hearing.proofs.Hearings.{heard-over, heard-told, text-ends, 
 use borrow.Author.Needs.{needs}
 use Rattle.hearing.proofs.text_ended.Statement.{statement}
 use Rattle.hearing.proofs.text_ended.Tie as tie
-use Rattle.hearing.proofs.text_ended.Reads as reads
-use Rattle.hearing.proofs.text_ended.Lts as lts
-use Rattle.driving.proofs.tell_end.Reads as tell-end-reads
-use Rattle.standing.proofs.over.Reads as over-reads
-use Rattle.printing.proofs.end.Reads as end-reads
-use Rattle.printing.proofs.refusal.Reads as refusal-reads
-use Rattle.standing.proofs.going.Reads as going-reads
 
 tell-end-requires : tie.Need-tell-end-requires
 tell-end-requires c κs = search needs

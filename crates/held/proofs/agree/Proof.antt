@@ -6,10 +6,6 @@ use Rattle.session.proofs.Agree.{places-agree-of}
 use borrow.Author.Needs.{needs}
 use Rattle.held.proofs.agree.Statement.{statement}
 use Rattle.held.proofs.agree.Tie as tie
-use Rattle.held.proofs.agree.Reads as reads
-use Rattle.held.proofs.agree.Lts as lts
-use Rattle.agreeing.proofs.agree.Reads as agree-reads
-use Rattle.held.proofs.in_order.Reads as in-order-reads
 
 in-order-requires : tie.Need-in-order-requires
 in-order-requires c κs = search needs

@@ -3,8 +3,6 @@ use Rattle.core.proofs.Laws.{joined-every}
 use Rattle.session.specs.Sound.{placesAgree, placesTests}
 use Rattle.held.proofs.in_order.Statement.{statement}
 use Rattle.held.proofs.in_order.Tie as tie
-use Rattle.held.proofs.in_order.Reads as reads
-use Rattle.held.proofs.in_order.Lts as lts
 
 returns : tie.Need-returns
 unfolding placesAgree placesTests

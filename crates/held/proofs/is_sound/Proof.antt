@@ -3,9 +3,6 @@ use Rattle.session.specs.Sound.{sound}
 use borrow.Author.Needs.{needs}
 use Rattle.held.proofs.is_sound.Statement.{statement}
 use Rattle.held.proofs.is_sound.Tie as tie
-use Rattle.held.proofs.is_sound.Reads as reads
-use Rattle.held.proofs.is_sound.Lts as lts
-use Rattle.held.proofs.agree.Reads as agree-reads
 
 agree-requires : tie.Need-agree-requires
 agree-requires c κs = search needs

@@ -10,10 +10,6 @@ use Rattle.held.proofs.Laws.{kept-back}
 use borrow.Author.Needs.{needs}
 use Rattle.held.proofs.kept_from.Statement.{statement}
 use Rattle.held.proofs.kept_from.Tie as tie
-use Rattle.held.proofs.kept_from.Reads as reads
-use Rattle.held.proofs.kept_from.Lts as lts
-use Rattle.held.proofs.kept_lines.Reads as kept-lines-reads
-use Rattle.lines.proofs.preceding.Reads as preceding-reads
 
 sub-preceding : tie.Need-sub-preceding
 sub-preceding c = search needs

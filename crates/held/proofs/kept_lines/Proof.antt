@@ -4,9 +4,6 @@ use Rattle.definition.specs.Definition.{keptLines}
 use borrow.Author.Needs.{needs}
 use Rattle.held.proofs.kept_lines.Statement.{statement}
 use Rattle.held.proofs.kept_lines.Tie as tie
-use Rattle.held.proofs.kept_lines.Reads as reads
-use Rattle.held.proofs.kept_lines.Lts as lts
-use Rattle.agreeing.proofs.has_context.Reads as has-context-reads
 
 has-context-requires : tie.Need-has-context-requires
 has-context-requires c κs = search needs

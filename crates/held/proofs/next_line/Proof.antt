@@ -3,10 +3,6 @@ use Rattle.session.specs.Held.{unanswered}
 use borrow.Author.Needs.{needs}
 use Rattle.held.proofs.next_line.Statement.{statement}
 use Rattle.held.proofs.next_line.Tie as tie
-use Rattle.held.proofs.next_line.Reads as reads
-use Rattle.held.proofs.next_line.Lts as lts
-use Rattle.ahead.proofs.next_line.Reads as next-line-reads
-use Rattle.held.proofs.is_open.Reads as is-open-reads
 
 is-open-requires : tie.Need-is-open-requires
 is-open-requires c κs = search needs

@@ -3,8 +3,6 @@ use Rattle.session.specs.Sound.{takenBytes}
 use borrow.Author.Needs.{needs}
 use Rattle.held.proofs.taken_bytes.Statement.{statement}
 use Rattle.held.proofs.taken_bytes.Tie as tie
-use Rattle.held.proofs.taken_bytes.Reads as reads
-use Rattle.held.proofs.taken_bytes.Lts as lts
 
 sub-result : tie.Need-sub-result
 sub-result c = search needs

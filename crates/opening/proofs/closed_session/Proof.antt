@@ -2,10 +2,6 @@
 use borrow.Author.Needs.{needs}
 use Rattle.opening.proofs.closed_session.Statement.{statement}
 use Rattle.opening.proofs.closed_session.Tie as tie
-use Rattle.opening.proofs.closed_session.Reads as reads
-use Rattle.opening.proofs.closed_session.Lts as lts
-use Rattle.definition.proofs.Settings.plain.Reads as plain-reads
-use Rattle.opening.proofs.fresh_session.Reads as fresh-session-reads
 
 plain-requires : tie.Need-plain-requires
 plain-requires c κs = search needs

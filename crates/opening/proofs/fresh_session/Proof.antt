@@ -2,10 +2,6 @@
 use borrow.Author.Needs.{needs}
 use Rattle.opening.proofs.fresh_session.Statement.{statement}
 use Rattle.opening.proofs.fresh_session.Tie as tie
-use Rattle.opening.proofs.fresh_session.Reads as reads
-use Rattle.opening.proofs.fresh_session.Lts as lts
-use Rattle.stepping.proofs.start.Reads as start-reads
-use Rattle.opening.proofs.places_start.Reads as places-start-reads
 
 start-requires : tie.Need-start-requires
 start-requires c κs = search needs

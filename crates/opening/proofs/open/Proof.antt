@@ -5,11 +5,6 @@ use Rattle.opening.proofs.Laws.{opened-0, opened-1, opened-2}
 use borrow.Author.Needs.{needs}
 use Rattle.opening.proofs.open.Statement.{statement}
 use Rattle.opening.proofs.open.Tie as tie
-use Rattle.opening.proofs.open.Reads as reads
-use Rattle.opening.proofs.open.Lts as lts
-use Rattle.agreeing.proofs.are_allowed.Reads as are-allowed-reads
-use Rattle.opening.proofs.fresh_session.Reads as fresh-session-reads
-use Rattle.opening.proofs.refused.Reads as refused-reads
 
 are-allowed-requires : tie.Need-are-allowed-requires
 are-allowed-requires c κs = search needs

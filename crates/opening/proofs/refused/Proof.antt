@@ -2,9 +2,6 @@
 use borrow.Author.Needs.{needs}
 use Rattle.opening.proofs.refused.Statement.{statement}
 use Rattle.opening.proofs.refused.Tie as tie
-use Rattle.opening.proofs.refused.Reads as reads
-use Rattle.opening.proofs.refused.Lts as lts
-use Rattle.opening.proofs.closed_session.Reads as closed-session-reads
 
 closed-session-requires : tie.Need-closed-session-requires
 closed-session-requires c κs = search needs

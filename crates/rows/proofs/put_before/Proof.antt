@@ -9,10 +9,6 @@ use Rattle.lines.proofs.Laws.{step-at}
 use Rattle.rows.proofs.Laws.{Left, left-begun, left-done, row-fits, turn}
 use Rattle.rows.proofs.put_before.Statement.{statement}
 use Rattle.rows.proofs.put_before.Tie as tie
-use Rattle.rows.proofs.put_before.Reads as reads
-use Rattle.rows.proofs.put_before.Lts as lts
-use Rattle.lines.proofs.step.Reads as step-reads
-use Rattle.rows.proofs.put_row.Reads as put-row-reads
 
 abbrev Inv-loop : tie.InvT-loop
 Inv-loop table₀ at part terminator offset number i₀ k₀ table i k = Left terminator at offset number part table₀ table i k

@@ -10,8 +10,6 @@ use Rattle.definition.specs.Text.{putAt}
 use borrow.Author.Needs.{needs}
 use Rattle.rows.proofs.put_row.Statement.{statement}
 use Rattle.rows.proofs.put_row.Tie as tie
-use Rattle.rows.proofs.put_row.Reads as reads
-use Rattle.rows.proofs.put_row.Lts as lts
 
 mul-table : tie.Need-mul-table
 mul-table c = search needs

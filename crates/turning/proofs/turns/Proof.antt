@@ -14,18 +14,6 @@ use Rattle.turning.proofs.Answers.{Asked, asked-rows}
 use Rattle.turning.proofs.Looping.{Loop, loop-ends, loop-goes, loop-gives, loop-refuses, loop-start, loop-stops, loop-taken, loop-wants}
 use Rattle.turning.proofs.turns.Statement.{statement}
 use Rattle.turning.proofs.turns.Tie as tie
-use Rattle.turning.proofs.turns.Reads as reads
-use Rattle.turning.proofs.turns.Lts as lts
-use Rattle.driving.proofs.feed.Reads as feed-reads
-use Rattle.literal.proofs.contains_by.Reads as contains-by-reads
-use Rattle.searcher.proofs.Searcher.answer.Reads as answer-reads
-use Rattle.searcher.proofs.Searcher.line.Reads as line-reads
-use Rattle.standing.proofs.wanting.Reads as wanting-reads
-use Rattle.standing.proofs.over.Reads as over-reads
-use Rattle.printing.proofs.end.Reads as end-reads
-use Rattle.printing.proofs.refusal.Reads as refusal-reads
-use Rattle.printing.proofs.rows.Reads as rows-reads
-use Rattle.standing.proofs.going.Reads as going-reads
 
 abbrev Inv-loop : tie.InvT-loop
 Inv-loop s window₀ table₀ literal input₀ out₀ size to searcher₀ at₀ pending₀ turns₀ window table input out searcher at pending turns =

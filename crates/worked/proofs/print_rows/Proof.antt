@@ -3,9 +3,6 @@ use Prim.Native.Nat.{_-_, _≤_}
 use native.Mathlib.Omega.{arith}
 use Rattle.worked.proofs.print_rows.Statement.{statement}
 use Rattle.worked.proofs.print_rows.Tie as tie
-use Rattle.worked.proofs.print_rows.Reads as reads
-use Rattle.worked.proofs.print_rows.Lts as lts
-use Rattle.worked.proofs.print_row.Reads as print-row-reads
 
 abbrev Inv-loop : tie.InvT-loop
 Inv-loop table rows i₀ i = (i ≤ rows) × (rows ≤ 3)

@@ -7,14 +7,6 @@ use lib.ListN.{length, take, drop, length-drop, length-take}
 use Rattle.machine.proofs.Feeds.{fed-taken}
 use Rattle.worked.proofs.search.Statement.{statement}
 use Rattle.worked.proofs.search.Tie as tie
-use Rattle.worked.proofs.search.Reads as reads
-use Rattle.worked.proofs.search.Lts as lts
-use Rattle.driving.proofs.feed.Reads as feed-reads
-use Rattle.searcher.proofs.Searcher.answer.Reads as answer-reads
-use Rattle.searcher.proofs.Searcher.line.Reads as line-reads
-use Rattle.worked.proofs.goes_on.Reads as goes-on-reads
-use Rattle.worked.proofs.is_wanted.Reads as is-wanted-reads
-use Rattle.worked.proofs.print_rows.Reads as print-rows-reads
 
 abbrev Inv-loop : tie.InvT-loop
 Inv-loop text window₀ table₀ s₀ at₀ turns₀ window table s at turns =

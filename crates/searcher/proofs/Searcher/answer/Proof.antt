@@ -3,9 +3,6 @@ use Rattle.searcher.specs.Door.{doorAnswered}
 use borrow.Author.Needs.{needs}
 use Rattle.searcher.proofs.Searcher.answer.Statement.{statement}
 use Rattle.searcher.proofs.Searcher.answer.Tie as tie
-use Rattle.searcher.proofs.Searcher.answer.Reads as reads
-use Rattle.searcher.proofs.Searcher.answer.Lts as lts
-use Rattle.answering.proofs.answer.Reads as answer-reads
 
 answer-requires : tie.Need-answer-requires
 answer-requires c κs = search needs

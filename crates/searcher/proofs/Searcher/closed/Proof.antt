@@ -2,9 +2,6 @@
 use borrow.Author.Needs.{needs}
 use Rattle.searcher.proofs.Searcher.closed.Statement.{statement}
 use Rattle.searcher.proofs.Searcher.closed.Tie as tie
-use Rattle.searcher.proofs.Searcher.closed.Reads as reads
-use Rattle.searcher.proofs.Searcher.closed.Lts as lts
-use Rattle.opening.proofs.closed_session.Reads as closed-session-reads
 
 closed-session-requires : tie.Need-closed-session-requires
 closed-session-requires c κs = search needs

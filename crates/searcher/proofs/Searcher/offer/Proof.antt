@@ -3,9 +3,6 @@ use Rattle.searcher.specs.Door.{doorOffered}
 use borrow.Author.Needs.{needs}
 use Rattle.searcher.proofs.Searcher.offer.Statement.{statement}
 use Rattle.searcher.proofs.Searcher.offer.Tie as tie
-use Rattle.searcher.proofs.Searcher.offer.Reads as reads
-use Rattle.searcher.proofs.Searcher.offer.Lts as lts
-use Rattle.offering.proofs.offer.Reads as offer-reads
 
 offer-requires : tie.Need-offer-requires
 offer-requires c κs = search needs

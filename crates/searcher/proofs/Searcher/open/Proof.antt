@@ -3,9 +3,6 @@ use Rattle.searcher.specs.Door.{doorOpened}
 use borrow.Author.Needs.{needs}
 use Rattle.searcher.proofs.Searcher.open.Statement.{statement}
 use Rattle.searcher.proofs.Searcher.open.Tie as tie
-use Rattle.searcher.proofs.Searcher.open.Reads as reads
-use Rattle.searcher.proofs.Searcher.open.Lts as lts
-use Rattle.opening.proofs.open.Reads as open-reads
 
 open-requires : tie.Need-open-requires
 open-requires c κs = search needs

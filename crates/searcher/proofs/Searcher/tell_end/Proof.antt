@@ -3,9 +3,6 @@ use Rattle.searcher.specs.Door.{doorTold}
 use borrow.Author.Needs.{needs}
 use Rattle.searcher.proofs.Searcher.tell_end.Statement.{statement}
 use Rattle.searcher.proofs.Searcher.tell_end.Tie as tie
-use Rattle.searcher.proofs.Searcher.tell_end.Reads as reads
-use Rattle.searcher.proofs.Searcher.tell_end.Lts as lts
-use Rattle.ending.proofs.tell_end.Reads as tell-end-reads
 
 tell-end-requires : tie.Need-tell-end-requires
 tell-end-requires c κs = search needs
