@@ -1,13 +1,15 @@
--- Laws of lists that the definition leans on and the library lacks: the last n of a list, lists joined, and a list
--- written into.
+-- Laws of lists that the definition leans on and the library lacks: the last n of a list, lists joined, a list written into,
+-- and rows read back from a table.
 use Prim.Native.Nat.{ℕ, _+_, _-_, _≤_}
 use mathlib.Core.Path.{_≡_, refl, sym, _∙_, ap}
-use mathlib.Core.List.{List, [], _∷_, _++_, append-assoc, flatten}
+use mathlib.Core.List.{List, [], _∷_, _++_, append-assoc, flatten, map}
 use native.Mathlib.Decide.{decLe}
 use native.Mathlib.Omega.{arith}
 use lib.ListN.{length, take, drop, length-append, length-drop, length-take, take-append-drop}
 use lib.Seq.{drop-append-add, drop-append-le, drop-drop, drop-length, take-at}
+use Rattle.definition.specs.declared.Row.{Row}
 use Rattle.definition.specs.Definition.{lastOf}
+use Rattle.definition.specs.Rows.{flat, rowsIn}
 use Rattle.definition.specs.Text.{putAt}
 
 module _ {ℓ} {A : Type ℓ} where
@@ -83,3 +85,10 @@ putAt-append at xs ys old h =
     ap (λ n. drop (n + length ys) (front ++ rest)) (sym size) ∙ drop-append-add front rest (length ys) ∙ drop-drop (length ys) (at + length xs) old
     in
     rw (once, take-at front rest (at + length xs) size, past, far) (simp append-assoc)
+
+-- # Rows read back from the table
+
+pub rowsIn-put : (rs : List Row) (table : List ℕ) → rowsIn (length rs) (flatten (map flat rs) ++ table) ≡ rs
+unfolding rowsIn flatten
+rowsIn-put [] table = refl
+rowsIn-put (r ∷ rs) table = ap (λ xs. r ∷ xs) (rowsIn-put rs table)

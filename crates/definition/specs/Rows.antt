@@ -1,5 +1,5 @@
 -- 01, "Rows are four numbers": rows, their kinds, and the places of the lines that they speak of.
-use Prim.Native.Nat.{ℕ, _+_}
+use Prim.Native.Nat.{ℕ, zero, suc, _+_}
 use mathlib.Core.List.{List, [], _∷_}
 use lib.ListN as ListN
 use Rattle.definition.specs.declared.Row.{Row}
@@ -31,6 +31,13 @@ flat r = r .kind ∷ (r .offset ∷ (r .length ∷ (r .number ∷ [])))
 -- how many numbers a row is
 abbrev pub rowSize : ℕ
 rowSize = 4
+
+-- the first n rows of a row table
+unfoldable pub rowsIn : ℕ → List ℕ → List Row
+rowsIn zero table = []
+rowsIn (suc n) table =
+    record { kind = ListN.getD table 0 0; offset = ListN.getD table 1 0; length = ListN.getD table 2 0; number = ListN.getD table 3 0 }
+    ∷ rowsIn n (ListN.drop rowSize table)
 
 -- where a line stands: its first byte, counting from 0, its length with terminator, its number
 pub record Line : Type 0 where

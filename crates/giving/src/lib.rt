@@ -1,4 +1,4 @@
-// One line answered: its rows into the table, and the walk after it, from the bytes since the last line with a row, wherever
+// One line answered: its rows into the table, and what became of it, from the bytes since the last line with a row, wherever
 // these lie.
 use core::Given;
 use core::Walk;

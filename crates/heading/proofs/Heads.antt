@@ -33,8 +33,7 @@ use Rattle.search_machine.specs.Head.{longest, lookedAt}
 use Rattle.search_machine.specs.Search.{asks, search, stateAt, turnOf}
 use Rattle.search_machine.specs.Standing.{HeadReady, OpenedTo, Ready, Turned, begunWith, openedWith, overWith, refused, seen, served, wantingWith}
 use Rattle.printing.specs.Texts.{newline, refusedText}
-use Rattle.search_machine.proofs.Places.{same-state, tells-within}
-use Rattle.search_machine.proofs.Places.{part-rolled, part-take}
+use Rattle.search_machine.proofs.Places.{same-state, tells-within, part-rolled, part-take}
 use Rattle.machine.proofs.Leads.{closes-ends, leads-goes, leads-none}
 
 -- # How a line stands

@@ -1,2 +1,2 @@
--- What is proved of the questions.
+-- What is proved of the places.
 pub mod Laws

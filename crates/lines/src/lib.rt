@@ -1,5 +1,5 @@
 // What lines.rs does: where a byte stands first, where the next line ends, where the last lines start, how many there are,
-// and a line without its terminator. Each over a lent part of a window, for any terminator byte.
+// and a line without its terminator. Each over lent bytes, for any terminator byte.
 ghost use mathlib.Core.Path.{_≡_};
 ghost use lib.ListN.{length};
 ghost use Rattle.definition.specs.Text.{firstLength, firstPlace, lines};
@@ -25,7 +25,7 @@ pub fn find(s: &[u8], byte: u8) -> Found
     Found::Nothing
 }
 
-// The first place of a byte in a piece; the piece's length where it has none.
+// The first place of a byte; the length where there is none.
 pub fn first_place(piece: &[u8], byte: u8) -> usize
     ensures { λ r. ⌜ r ≡ firstPlace byte (now (piece .entry)) ⌝ }
 {

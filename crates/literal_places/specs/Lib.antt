@@ -1,4 +1,4 @@
--- The literal matcher. A reader who believes Literal knows what it answers; Sweeps is what the search knows on its way.
+-- Where a literal stands. A reader who believes Literal knows what the matcher answers; Sweeps is what it knows on its way.
 pub mod Literal
 pub mod Sweeps
 pub mod Examples

@@ -18,16 +18,17 @@ use Rattle.session.specs.declared.Input.the-variants.{Open, Ended, QuitFound}
 use Rattle.session.specs.declared.Session.{Session}
 use Rattle.session.specs.Calls.{offered, recorded}
 use Rattle.session.specs.Held.{heldBytes, isOpen, unanswered, waits}
-use Rattle.session.specs.Promises.{answersOf}
+use Rattle.promises.specs.Promises.{answersOf}
 use Rattle.session.specs.Sound.{takenBytes}
-use Rattle.session.proofs.Carry.{more-text, not-idle}
-use Rattle.session.proofs.Cases.{offer-case, offer-only}
-use Rattle.session.proofs.Finish.{Done, ended, nothing-left, quit-later, quit-none, served-done, stopped}
-use Rattle.session.proofs.Giving.{text-none}
-use Rattle.session.proofs.Invariant.{InputNow, Inv, unanswered-length}
+use Rattle.promises.proofs.Carry.{more-text, not-idle}
+use Rattle.session.proofs.Cases.{offer-case}
+use Rattle.promises.proofs.Only.{offer-only}
+use Rattle.promises.proofs.Finish.{Done, ended, nothing-left, quit-later, quit-none, served-done, stopped}
+use Rattle.promises.proofs.Giving.{text-none}
+use Rattle.promises.proofs.Invariant.{InputNow, Inv, unanswered-length}
 use Rattle.session.proofs.Parts.{kept-le}
-use Rattle.session.proofs.Promises.{finished-inv}
-use Rattle.session.proofs.Room.{longer-line, no-terminator}
+use Rattle.promises.proofs.Promises.{finished-inv}
+use Rattle.promises.proofs.Room.{longer-line, no-terminator}
 use Rattle.machine.specs.Program.{Program}
 use Rattle.machine.specs.Promises.{Ending, Gone, HasEnded, Prints, Whole, breaksOff, cut-off, finished, no-room, said, too-large, whole}
 use Rattle.machine.proofs.Counted.{Facts, facts, past, upto}

@@ -20,9 +20,9 @@ use Rattle.definition.proofs.Same.{same-lines}
 use Rattle.definition.proofs.Uncut.{Uncut}
 use Rattle.session.specs.declared.Session.{Session}
 use Rattle.session.specs.Held.{keptBytes, unanswered}
-use Rattle.session.specs.Promises.{Fitted, keptBefore}
-use Rattle.session.proofs.Giving.{going-is, kept-before, lines-is}
-use Rattle.session.proofs.Invariant.{Inv}
+use Rattle.promises.specs.Promises.{Fitted, keptBefore}
+use Rattle.promises.proofs.Giving.{going-is, kept-before, lines-is}
+use Rattle.promises.proofs.Invariant.{Inv}
 use Rattle.machine.specs.Promises.{Gone}
 
 -- the lines of a text, and the first so many of them

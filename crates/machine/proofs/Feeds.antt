@@ -10,7 +10,7 @@ use borrow.Author.Tests.{eq-eqb, ne-eqb}
 use Rattle.core.specs.Answer.{AnswerRefused, Give}
 use Rattle.session.specs.declared.Session.{Session}
 use Rattle.session.specs.Calls.{answerRows, answerSession, answering, offered, offeredWindow, recorded, shownLine, told}
-use Rattle.session.proofs.Taking.{taken-le}
+use Rattle.promises.proofs.Taking.{taken-le}
 use Rattle.machine.specs.declared.Next.the-variants.{Goes, Wants, Refuses, Ends}
 use Rattle.machine.specs.Machine.{ended, ends, goes, wants}
 use Rattle.machine.specs.Program.{Program, Standing, answers, fed, fedEnd, fedWindow, feeds, hears, stays, tableSize, turns}

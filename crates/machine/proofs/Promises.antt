@@ -21,10 +21,10 @@ use Rattle.definition.proofs.Terminator.{lines-whole}
 use Rattle.session.specs.declared.Input.the-variants.{Ended}
 use Rattle.session.specs.declared.Session.{Session}
 use Rattle.session.specs.Calls.{fresh, opened}
-use Rattle.session.specs.Promises.{answersOf}
-use Rattle.session.specs.Run.{Run, atStart, here}
-use Rattle.session.proofs.Carry.{weight}
-use Rattle.session.proofs.History.{inv-run, run-settings}
+use Rattle.promises.specs.Promises.{answersOf}
+use Rattle.promises.specs.Run.{Run, atStart, here}
+use Rattle.promises.proofs.Carry.{weight}
+use Rattle.promises.proofs.History.{inv-run, run-settings}
 use Rattle.session.proofs.Keeps.{served-fresh}
 use Rattle.machine.specs.Machine.{Read, run}
 use Rattle.machine.specs.Program.{Program, begins, driver, turns}

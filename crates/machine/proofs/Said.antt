@@ -12,11 +12,11 @@ use Rattle.definition.specs.Text.{firstPlace, handed, lines, text}
 use Rattle.session.specs.declared.Session.{Session}
 use Rattle.session.specs.Calls.{answerRows, shownLine}
 use Rattle.session.specs.Held.{lineLength, unanswered, waits}
-use Rattle.session.specs.Promises.{answersOf}
-use Rattle.session.proofs.Carry.{waiting-now}
-use Rattle.session.proofs.Giving.{line, lines-now, rows-step}
-use Rattle.session.proofs.Invariant.{Inv}
-use Rattle.session.proofs.Promises.{shown-handed}
+use Rattle.promises.specs.Promises.{answersOf}
+use Rattle.promises.proofs.Carry.{waiting-now}
+use Rattle.promises.proofs.Giving.{line, lines-now, rows-step}
+use Rattle.promises.proofs.Invariant.{Inv}
+use Rattle.promises.proofs.Promises.{shown-handed}
 use Rattle.machine.specs.Program.{Program}
 use Rattle.machine.specs.Promises.{Whole, said, saidFrom}
 use Rattle.machine.proofs.Counted.{gone-is, upto}

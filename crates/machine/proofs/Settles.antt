@@ -12,10 +12,10 @@ use Rattle.session.specs.declared.Input.the-variants.{Open, Ended}
 use Rattle.session.specs.declared.Session.{Session}
 use Rattle.session.specs.Calls.{told, toldSession}
 use Rattle.session.specs.Held.{waits}
-use Rattle.session.specs.Promises.{answersOf}
+use Rattle.promises.specs.Promises.{answersOf}
 use Rattle.session.proofs.Agree.{agrees-of}
-use Rattle.session.proofs.Carry.{told-falls, told-served, weight}
-use Rattle.session.proofs.History.{inv-told}
+use Rattle.promises.proofs.Carry.{told-falls, told-served, weight}
+use Rattle.promises.proofs.History.{inv-told}
 use Rattle.machine.specs.Machine.{Read, Turn, ended, ends, failed, goes, run, some, wants}
 use Rattle.machine.specs.Program.{Program, Standing, driver, hears, turns}
 use Rattle.machine.specs.Promises.{Ending, Prints, breaksOff, broken, bytesOf, endingOf, said, unended, whole}

@@ -22,15 +22,15 @@ use Rattle.session.specs.declared.Input.the-variants.{Open, Ended}
 use Rattle.session.specs.declared.Session.{Session}
 use Rattle.session.specs.Calls.{Idle, OfferDecision, OfferRefused, Take, answerRows, answerSession, offerAnswer, offered, offeredWindow, offering, placesNext, recorded, shownLine, stored}
 use Rattle.session.specs.Held.{isOpen, lineLength, unanswered, waits}
-use Rattle.session.specs.Promises.{answersOf}
-use Rattle.session.proofs.Carry.{answer-falls, ends-now, held-ends, is-open, nothing-held, offer-falls, record-served, stopped-ends, waiting-now, weight}
+use Rattle.promises.specs.Promises.{answersOf}
+use Rattle.promises.proofs.Carry.{answer-falls, ends-now, held-ends, is-open, nothing-held, offer-falls, record-served, stopped-ends, waiting-now, weight}
 use Rattle.session.proofs.Cases.{answer-is, none, offer-case}
-use Rattle.session.proofs.Giving.{inv-given, line}
-use Rattle.session.proofs.History.{answer-gives, inv-offer}
-use Rattle.session.proofs.Invariant.{Inv, sound-now}
+use Rattle.promises.proofs.Giving.{inv-given, line}
+use Rattle.promises.proofs.History.{answer-gives, inv-offer}
+use Rattle.promises.proofs.Invariant.{Inv, sound-now}
 use Rattle.session.proofs.Keeps.{why-waits}
-use Rattle.session.proofs.Promises.{asked-inv}
-use Rattle.session.proofs.Taking.{taken-le}
+use Rattle.promises.proofs.Promises.{asked-inv}
+use Rattle.promises.proofs.Taking.{taken-le}
 use Rattle.machine.specs.Machine.{ends, goes, wants}
 use Rattle.machine.specs.Program.{Program, feeds, tableSize, turns}
 use Rattle.machine.specs.Promises.{Ending, Prints, Whole, said}

@@ -15,8 +15,8 @@ use Rattle.definition.specs.Definition.{endOf, goneLines}
 use Rattle.definition.specs.Text.{firstPlace, lines, text}
 use Rattle.definition.proofs.Lists.{flatten-append}
 use Rattle.definition.proofs.Terminator.{lines-only}
-use Rattle.session.specs.Promises.{keptBefore}
-use Rattle.session.proofs.Room.{cut-longer}
+use Rattle.promises.specs.Promises.{keptBefore}
+use Rattle.promises.proofs.Room.{cut-longer}
 use Rattle.machine.specs.Program.{Program}
 use Rattle.machine.specs.Promises.{Ending, Gone, HasEnded, Prints, Whole, asked, breaksOff, cut-off, finished, no-room, said, too-large}
 

@@ -15,7 +15,7 @@ use Rattle.definition.specs.Definition.{endOf, goneLines, quitMet, rowsOf}
 use Rattle.definition.specs.State.{State, begun, stepRows, stepState}
 use Rattle.definition.specs.Text.{firstPlace, handed, lines, text}
 use Rattle.session.specs.Calls.{opened}
-use Rattle.session.specs.Promises.{Fitted, TooLong, Within, answersOf, keptBefore}
+use Rattle.promises.specs.Promises.{Fitted, TooLong, Within, answersOf, keptBefore}
 use Rattle.machine.specs.Machine.{Read, ended, failed, run, some}
 use Rattle.machine.specs.Program.{Program, begins, driver, turns}
 

@@ -23,7 +23,7 @@ use Rattle.session.specs.Held.{heldBytes, keptFrom, waits}
 use Rattle.session.specs.Sound.{sound, takenBytes}
 use Rattle.session.proofs.Cases.{OfferCase, full, offer-is, quits, sized, takes}
 use Rattle.session.proofs.Keeps.{Taken, TakenIf, offer-taken}
-use Rattle.session.proofs.Taking.{quit-le}
+use Rattle.session.proofs.Parts.{quit-le}
 use Rattle.held.proofs.Laws.{held-from, sound-of}
 use Rattle.reaching.specs.declared.Reach.{Reach}
 use Rattle.reaching.specs.Reached.{reached}

@@ -1,20 +1,16 @@
 -- Laws of printed text: how long it gets, and text behind text.
 use Prim.Native.Nat.{ℕ, suc, zero, _+_, _*_, _≤_, _<_}
 use mathlib.Core.Path.{_≡_, refl, sym, _∙_, ap}
-use mathlib.Core.List.{List, [], _∷_, _++_, append-assoc, append-nil, flatten, map}
+use mathlib.Core.List.{List, [], _∷_, _++_, append-assoc, append-nil, flatten}
 use native.Mathlib.Numerals.{add-one}
 use native.Mathlib.Omega.{arith}
 use lib.ListN.{length, drop, getD, length-append}
 use lib.Seq.{getD-drop}
-use Rattle.definition.specs.declared.Row.{Row}
-use Rattle.definition.specs.Rows.{rowSize}
-use Rattle.core.specs.Answer.{putRows}
-use Rattle.session.specs.Run.{rowsIn}
-use Rattle.session.proofs.Giving.{rowsIn-put}
+use Rattle.definition.specs.Rows.{rowSize, rowsIn}
 use Rattle.output.specs.declared.Pending.{Pending}
 use Rattle.output.specs.Output.{Tells, collected, collectedIn, decimal}
 use Rattle.output.proofs.Laws.{decimal-length, tells, tells-more, tells-none}
-use Rattle.printing.specs.Texts.{fourText, newline, refusedText, rowMost, rowText, rowsText, space}
+use Rattle.printing.specs.Texts.{fourText, newline, refusedText, rowMost, rowsText, space}
 
 -- # Text behind text
 
@@ -70,11 +66,6 @@ rows-next (suc i) table =
     let next : rowSize + rowSize * i ≡ rowSize * suc i = omega arith in
     let more : rowsText (suc i) rest ≡ rowsText i rest ++ rowAt table (rowSize * suc i) = rows-next i rest ∙ ap (λ text. rowsText i rest ++ text) (rowAt-drop table (rowSize * i) ∙ ap (λ n. rowAt table n) next) in
     ap (λ text. rowAt table 0 ++ text) more ∙ sym (append-assoc (rowAt table 0) (rowsText i rest) (rowAt table (rowSize * suc i)))
-
--- the rows that an answer put into a table
-pub rows-put : (rs : List Row) (table : List ℕ) → rowsText (length rs) (putRows rs table) ≡ flatten (map rowText rs)
-unfolding rowsText putRows
-rows-put rs table = ap (λ xs. flatten (map rowText xs)) (rowsIn-put rs (drop (rowSize * length rs) table))
 
 -- the first rows of a table are printed
 pub record RowsTold (p : Pending) (out table : List ℕ) (i : ℕ) (told : Pending) (after : List ℕ) : Type 0 where

@@ -3,7 +3,7 @@ use Prim.Native.Nat.{ℕ}
 use mathlib.Core.List.{List, [], _∷_, _++_, flatten, map}
 use Rattle.definition.specs.declared.End.{End}
 use Rattle.definition.specs.declared.Row.{Row}
-use Rattle.session.specs.Run.{rowsIn}
+use Rattle.definition.specs.Rows.{rowsIn}
 use Rattle.output.specs.Output.{decimal}
 
 abbrev pub newline : ℕ

@@ -12,7 +12,7 @@ use Rattle.definition.specs.declared.Binary.{Binary}
 use Rattle.definition.specs.declared.Binary.the-variants.{Ignore, Quit, Convert}
 use Rattle.definition.specs.Text.{firstPlace, upTo}
 use Rattle.session.specs.Calls.{quitPlace}
-use Rattle.session.proofs.Taking.{quit-le}
+use Rattle.session.proofs.Parts.{quit-le}
 use Rattle.reaching.specs.Reached.{reached}
 
 first-take : (b n : ℕ) (xs : List ℕ) → firstPlace b (take n xs) ≡ min (firstPlace b xs) n

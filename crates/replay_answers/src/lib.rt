@@ -1,4 +1,5 @@
-// What `replay` says of a call, and of the search and the lent parts as they stand. A line of another form ends the script.
+// What `replay` says of a call, and of the search and the lent parts as they stand; and `poke`, which makes no call and
+// overwrites bytes of the room. A line of another form ends the script.
 use output::Pending;
 use replay_calls::Called;
 use replay_says::Said;

@@ -1,5 +1,5 @@
 // A line of a script for `replay`, as words: which command it is, with its numbers, and the settings of an opening. What
-// each command does is in `replaying`.
+// each command does is in `replay_calls` and `replay_answers`; the commands are listed in `replaying`.
 use definition::Binary;
 use definition::Settings;
 use forms::Asked;

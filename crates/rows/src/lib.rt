@@ -28,7 +28,7 @@ pub fn put_row(table: &mut [u64], at: usize, row: Row)
     table[at + 3] = row.number;
 }
 
-// The rows of before-context: one for each line of a part of the window, which starts at an offset and a line number.
+// The rows of before-context: one for each line of some bytes, which start at an offset and a line number.
 pub fn put_before(
     table: &mut [u64],
     at: usize,

@@ -4,15 +4,14 @@ use mathlib.Core.Path.{_≡_, refl}
 use mathlib.Core.Bool.{Bool, true, false, cond, not, _&&_}
 use mathlib.Core.List.{List}
 use mathlib.Core.Logic.{_⊎_, inl, inr}
-use lib.Dec.{ltb, leb, eqb}
+use lib.Dec.{ltb, leb}
 use lib.ListN.{length}
-use borrow.Author.Tests.{eqb-false, le-leb, le-ltb, leb-true, leb-false, lt-leb, lt-ltb, ltb-true, ltb-false}
+use borrow.Author.Tests.{le-leb, le-ltb, leb-true, leb-false, lt-leb, lt-ltb, ltb-true, ltb-false}
 use Rattle.definition.specs.Bounds.{maxInput}
 use Rattle.definition.specs.Rows.{rowSize}
 use Rattle.core.specs.Answer.{AnswerDecision, AnswerRefused, Give, answeringSince}
 use Rattle.session.specs.declared.Session.{Session}
-use Rattle.session.specs.Calls.{Idle, OfferDecision, OfferRefused, answerAnswer, answerRows, answering, belowOne, idle, offerAnswer, offering, quitFront, taking}
-use Rattle.session.specs.Caller.{OfferServed, Plain}
+use Rattle.session.specs.Calls.{Idle, OfferDecision, OfferRefused, Plain, answerRows, answering, belowOne, idle, offering, quitFront, taking}
 use Rattle.session.specs.Held.{heldBytes, waits}
 use Rattle.session.specs.Sound.{sound, takenBytes}
 
@@ -68,24 +67,6 @@ module _ (s : Session) (w piece : List ℕ) where
   offer-is _ (takes p m (inr f)) =
       rw (p .0, p .1, p .2, lt-leb maxInput (takenBytes s) m, lt-leb (s .places .window) (heldBytes s w) f, and-false (not (waits s w)))
 
-never : {A : Type 0} (m n : ℕ) → eqb m n ≡ false → m ≡ n → A
-never m n e z = absurd (eqb-false m n e z)
-
--- what each number says of an offer
-pub offer-only : (s : Session) (w piece : List ℕ) (o : OfferDecision) → OfferCase s w piece o
-    → let n = offerAnswer o s w piece .refusal in
-    (n ≡ 6 → sound s (length w) ≡ false)
-    × (n ≡ 5 → Plain s w piece × (maxInput ≤ takenBytes s))
-    × (n ≡ 3 → Plain s w piece × (takenBytes s < maxInput) × (waits s w ≡ false) × (s .places .window ≤ heldBytes s w))
-    × (n ≡ 0 → OfferServed s w piece)
-unfolding taking
-offer-only s w piece _ (unsound e) = (λ z. e, never 6 5 refl, never 6 3 refl, never 6 0 refl)
-offer-only s w piece _ (idling e d) = (never 0 6 refl, never 0 5 refl, never 0 3 refl, λ z. (e, inl d))
-offer-only s w piece _ (quits e d q) = (never 0 6 refl, never 0 5 refl, never 0 3 refl, λ z. (e, inr (inl q)))
-offer-only s w piece _ (sized p m) = (never 5 6 refl, λ z. (p, m), never 5 3 refl, never 5 0 refl)
-offer-only s w piece _ (full p m v f) = (never 3 6 refl, never 3 5 refl, λ z. (p, m, v, f), never 3 0 refl)
-offer-only s w piece _ (takes p m v) = (never 0 6 refl, never 0 5 refl, never 0 3 refl, λ z. (p .0, inr (inr (m, v))))
-
 module _ (s : Session) (w : List ℕ) (table : ℕ) (hit : Bool) where
   pub data AnswerCase : AnswerDecision → Type 0 where
     unsound : sound s (length w) ≡ false → AnswerCase (AnswerRefused 6)
@@ -119,15 +100,3 @@ module _ (s : Session) (w : List ℕ) (table : ℕ) (hit : Bool) where
   answer-is _ (below e v b) = rw (e, v, b)
   answer-is _ (few e v b m) = rw (e, v, b, lt-ltb table (rowSize * length (answerRows s w hit)) m)
   answer-is _ (gives e v b m) = rw (e, v, b, le-ltb table (rowSize * length (answerRows s w hit)) m)
-
-  -- what each number says of an answer
-  pub answer-only : (o : AnswerDecision) → AnswerCase o
-      → let n = answerAnswer o s w hit .refusal in
-      (n ≡ 6 → (sound s (length w) ≡ false) ⊎ ((waits s w ≡ false) ⊎ (belowOne s w hit ≡ true)))
-      × (n ≡ 4 → (sound s (length w) ≡ true) × (waits s w ≡ true) × (belowOne s w hit ≡ false) × (table < rowSize * length (answerRows s w hit)))
-      × (n ≡ 0 → (sound s (length w) ≡ true) × (waits s w ≡ true) × (belowOne s w hit ≡ false) × (rowSize * length (answerRows s w hit) ≤ table))
-  answer-only _ (unsound e) = (λ z. inl e, never 6 4 refl, never 6 0 refl)
-  answer-only _ (none e v) = (λ z. inr (inl v), never 6 4 refl, never 6 0 refl)
-  answer-only _ (below e v b) = (λ z. inr (inr b), never 6 4 refl, never 6 0 refl)
-  answer-only _ (few e v b m) = (never 4 6 refl, λ z. (e, v, b, m), never 4 0 refl)
-  answer-only _ (gives e v b m) = (never 0 6 refl, never 0 4 refl, λ z. (e, v, b, m))

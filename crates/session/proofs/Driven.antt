@@ -11,7 +11,7 @@ use Rattle.core.specs.Walk.{remainsAhead, shownAhead, waitsAhead, walkAgrees, w
 use Rattle.session.specs.Calls.{answerRows, answerSession, answered, answeredTable, answering, beforeQuit, belowOne, fitting, idle, offered, offeredWindow, offering, opened, opening, placesNext, quitFront, recordOf, recorded, recordedPlace, recording, remains, shownLine, stored, storedWindow, taking, told, toldSession, waiting}
 use Rattle.session.specs.Driven.{Plays, Table}
 use Rattle.session.specs.Held.{unanswered, waits, lineLength, sinceLines, keptBytes, heldBytes, keptFrom, shown}
-use Rattle.session.specs.Run.{rowsIn}
+use Rattle.definition.specs.Rows.{rowsIn}
 use Rattle.session.specs.Sound.{agrees, placesAgree, placesTests, sound, takenBytes}
 
 pub table-plays : Plays Table

@@ -1,16 +1,7 @@
--- What is proved of the session.
+-- What is proved of the session, call by call.
 pub mod Parts
 pub mod Agree
 pub mod Cases
 pub mod Keeps
-pub mod Invariant
-pub mod Taking
-pub mod Giving
-pub mod History
-pub mod Finish
-pub mod Carry
-pub mod Room
-pub mod Caller
-pub mod Soon
-pub mod Promises
+pub mod Shown
 pub mod Driven

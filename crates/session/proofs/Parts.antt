@@ -1,14 +1,17 @@
--- Laws of parts of a window, and of the kept part: all hold for any window.
+-- Laws of parts of a window, of the kept part and of the part of a piece before a Quit byte: all hold for any window and piece.
 use Prim.Native.Nat.{ℕ, zero, suc, _+_, _-_, _≤_}
 use mathlib.Core.Path.{_≡_, sym, _∙_, ap}
 use mathlib.Core.List.{List, [], _∷_, _++_, flatten}
 use native.Mathlib.Omega.{arith}
 use lib.ListN.{length, take, drop, length-take, length-drop}
 use lib.Seq.{drop-drop, take-add, take-nil}
+use Rattle.definition.specs.declared.Binary.{Binary}
+use Rattle.definition.specs.declared.Binary.the-variants.{Ignore, Quit, Convert}
 use Rattle.definition.specs.Definition.{lastOf, keptLines}
 use Rattle.definition.specs.Text.{part}
-use Rattle.definition.proofs.Terminator.{flatten-last}
+use Rattle.definition.proofs.Terminator.{first-le, flatten-last}
 use Rattle.session.specs.declared.Session.{Session}
+use Rattle.session.specs.Calls.{quitPlace}
 use Rattle.session.specs.Held.{keptBytes, keptFrom, sinceLines}
 
 pub part-length : (a e : ℕ) (w : List ℕ) → a ≤ e → e ≤ length w → length (part a e w) ≡ e - a
@@ -65,3 +68,10 @@ kept-part s w h k =
     let size : length x ≡ s .places .next - s .places .floor = part-length (s .places .floor) (s .places .next) w h k in
     let from : s .places .floor + (length x - length f) ≡ s .places .next - length f = omega (arith, last .0) in
     ap (λ a. part a (s .places .next) w) (sym from) ∙ sym (part-drop (s .places .floor) (s .places .next) (length x - length f) w) ∙ last .1
+
+-- # A Quit byte
+
+pub quit-le : (k : Binary) (piece : List ℕ) → quitPlace k piece ≤ length piece
+quit-le Ignore piece = omega arith
+quit-le (Quit b) piece = first-le b piece
+quit-le (Convert b) piece = omega arith

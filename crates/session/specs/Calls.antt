@@ -1,6 +1,7 @@
 -- 01, "A session": each call as a decision, in the order of the refusals, and what it then gives: the answer, and every byte of window
 -- and row table.
 use Prim.Native.Nat.{ℕ, _+_, _-_, min}
+use mathlib.Core.Path.{_≡_}
 use mathlib.Core.Bool.{Bool, true, false, cond, not, _&&_, _||_}
 use mathlib.Core.List.{List, [], _++_}
 use lib.Dec.{ltb, leb, eqb}
@@ -65,6 +66,10 @@ quitFront s piece = eqb (beforeQuit s piece) 0 && ltb 0 (length piece)
 -- "An empty piece, or one after the end or a stop, takes 0 and changes nothing."
 unfoldable pub idle : Session → List ℕ → Bool
 idle s piece = eqb (length piece) 0 || not (isOpen (s .places .input)) || not (isOn (s .walk .going))
+
+-- a piece with bytes while the input is open and no stop has come, not led by a Quit byte, to a sound session
+abbrev pub Plain : Session → List ℕ → List ℕ → Type 0
+Plain s w piece = (sound s (length w) ≡ true) × (idle s piece ≡ false) × (quitFront s piece ≡ false)
 
 -- "as many as fit and as the size allows"
 unfoldable pub fitting : Session → List ℕ → List ℕ → ℕ

@@ -15,13 +15,12 @@ use Rattle.definition.specs.declared.Place.the-variants.{Nowhere}
 use Rattle.definition.specs.declared.Settings.{Settings}
 use Rattle.definition.specs.Bounds.{plain}
 use Rattle.definition.specs.Examples.{Example, answersAt, context, settings, r, e, N, all, P}
-use Rattle.definition.specs.Rows.{rowSize}
+use Rattle.definition.specs.Rows.{rowSize, rowsIn}
 use Rattle.core.specs.Walk.{isOn}
 use Rattle.session.specs.declared.Input.the-variants.{Open}
 use Rattle.session.specs.declared.Session.{Session}
 use Rattle.session.specs.Calls.{answered, answeredTable, offered, offeredWindow, opened, recorded, shownLine, told, waiting, waitingRefusal}
 use Rattle.session.specs.Held.{isOpen, waits}
-use Rattle.session.specs.Run.{rowsIn}
 use Rattle.session.specs.Sound.{closed}
 
 -- # Calls and what is seen of them

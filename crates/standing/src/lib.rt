@@ -1,4 +1,4 @@
-// How `search` stands next. Each function makes one `Search` from another and feeds the driver nothing; `wanting` alone touches a
+// How `search` stands next. Each function but `start` makes one `Search` from another and feeds the driver nothing; `wanting` alone touches a
 // buffer.
 use output::Pending;
 use rare_bytes::Pair;

@@ -8,7 +8,9 @@ use lib.Dec.{eqb}
 use lib.ListN.{length, drop}
 use borrow.Author.Tests.{eqb-true}
 use Rattle.definition.specs.declared.End.{End}
+use Rattle.definition.specs.declared.Row.{Row}
 use Rattle.definition.specs.Rows.{rowSize}
+use Rattle.definition.proofs.Lists.{rowsIn-put}
 use Rattle.driving.specs.declared.Fed.{Fed}
 use Rattle.driving.specs.Door.{doorFed}
 use Rattle.literal_places.specs.Literal.{stands}
@@ -19,7 +21,7 @@ use Rattle.machine.specs.Program.{fed, fedWindow, feeds, stays, tableSize, turn
 use Rattle.searcher.specs.declared.Answered.{Answered}
 use Rattle.searcher.specs.Door.{doorAnswered}
 use Rattle.searcher.proofs.Laws.{rows-le}
-use Rattle.core.specs.Answer.{AnswerDecision, AnswerRefused, Give}
+use Rattle.core.specs.Answer.{AnswerDecision, AnswerRefused, Give, putRows}
 use Rattle.session.specs.declared.Session.{Session}
 use Rattle.session.specs.Calls.{answerAnswer, answerRows, answerSession, answered, answeredTable, answering, offered, offeredWindow, recorded, shownLine}
 use Rattle.session.proofs.Cases.{AnswerCase, answer-case, below, few, gives, none, unsound}
@@ -27,7 +29,6 @@ use Rattle.search_machine.specs.declared.Stage.{Stage}
 use Rattle.search_machine.specs.declared.Stage.the-variants.{Text}
 use Rattle.search_machine.specs.Search.{inText, searchFor, stateAt, turnOf}
 use Rattle.printing.specs.Texts.{endText, refusedText, rowText, rowsText}
-use Rattle.printing.proofs.Laws.{rows-put}
 
 -- # Answered or not
 
@@ -43,6 +44,11 @@ refused-by : (o : AnswerDecision) (s : Session) (w : List ℕ) (hit : Bool) → 
     → o ≡ AnswerRefused (answerAnswer o s w hit .refusal)
 refused-by (AnswerRefused k) s w hit h = refl
 refused-by Give s w hit h = absurd (h refl)
+
+-- the rows that an answer put into a table
+rows-put : (rs : List Row) (table : List ℕ) → rowsText (length rs) (putRows rs table) ≡ flatten (map rowText rs)
+unfolding rowsText putRows
+rows-put rs table = ap (λ xs. flatten (map rowText xs)) (rowsIn-put rs (drop (rowSize * length rs) table))
 
 module _ (s : Session) (w table : List ℕ) (hit : Bool) where
   pub answered-gives : answered s w table hit .refusal ≡ 0 → answering s w (length table) hit ≡ Give

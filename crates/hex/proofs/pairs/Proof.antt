@@ -4,7 +4,6 @@ use Prim.Native.Nat.{_-_, _≤_}
 use lib.ListN.{length, length-set}
 use native.Mathlib.Omega.{arith}
 use borrow.Author.Needs.{needs}
-use native.Mathlib.Omega.{arith}
 use Rattle.hex.proofs.pairs.Statement.{statement}
 use Rattle.hex.proofs.pairs.Tie as tie
 

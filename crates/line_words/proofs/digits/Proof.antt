@@ -1,6 +1,5 @@
 -- What is left of the word, behind the value so far, says what the whole word says.
-use mathlib.Core.Path.{sym, _∙_}
-use mathlib.Core.Path.{_≡_, refl}
+use mathlib.Core.Path.{sym, _∙_, _≡_, refl}
 use Prim.Native.Nat.{_-_, _≤_, _<_}
 use lib.ListN.{length, drop}
 use native.Mathlib.Omega.{arith}

@@ -2,7 +2,6 @@
 use native.Mathlib.Omega.{arith}
 use Prim.Native.Nat.{_-_, _≤_}
 use lib.ListN.{length}
-use native.Mathlib.Omega.{arith}
 use Rattle.replay_words.proofs.is.Statement.{statement}
 use Rattle.replay_words.proofs.is.Tie as tie
 

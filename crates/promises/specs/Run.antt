@@ -1,24 +1,17 @@
 -- Runs: everything that the caller of demand 3 may do, as a type of traces.
-use Prim.Native.Nat.{ℕ, zero, suc, _+_, _*_, _≤_}
+use Prim.Native.Nat.{ℕ, _+_, _*_, _≤_}
 use mathlib.Core.Path.{_≡_}
 use mathlib.Core.Bool.{Bool}
-use mathlib.Core.List.{List, [], _∷_, _++_}
-use lib.ListN.{length, take, drop, getD}
+use mathlib.Core.List.{List, [], _++_}
+use lib.ListN.{length, take, drop}
 use Rattle.definition.specs.declared.Row.{Row}
 use Rattle.definition.specs.declared.Going.the-variants.{On}
 use Rattle.definition.specs.declared.Settings.{Settings}
-use Rattle.definition.specs.Rows.{rowSize}
+use Rattle.definition.specs.Rows.{rowSize, rowsIn}
 use Rattle.session.specs.declared.Input.the-variants.{Open}
 use Rattle.session.specs.declared.Session.{Session}
 use Rattle.session.specs.declared.Waiting.the-variants.{LineWaits}
 use Rattle.session.specs.Calls.{answered, answeredTable, offered, offeredWindow, opened, told, waiting}
-
--- the first n rows of a row table
-unfoldable pub rowsIn : ℕ → List ℕ → List Row
-rowsIn zero table = []
-rowsIn (suc n) table =
-    record { kind = getD table 0 0; offset = getD table 1 0; length = getD table 2 0; number = getD table 3 0 }
-    ∷ rowsIn n (drop rowSize table)
 
 -- where a run stands, as its caller knows it
 pub record At : Type 0 where

@@ -18,15 +18,16 @@ use Rattle.definition.proofs.Kept.{state-append, state-stopped}
 use Rattle.definition.proofs.Same.{same-lines}
 use Rattle.definition.proofs.Terminator.{first-append-none, lines-head}
 use Rattle.core.specs.Walk.{isOn, waitsAhead}
 use Rattle.session.specs.declared.Session.{Session}
 use Rattle.session.specs.Calls.{idle, offered}
 use Rattle.session.specs.Held.{heldBytes, isOpen, keptBytes, unanswered, waits}
-use Rattle.session.specs.Promises.{Fitted, TooLong, keptBefore}
-use Rattle.session.proofs.Carry.{more-text, not-idle, or-false}
-use Rattle.session.proofs.Cases.{offer-case, offer-only}
-use Rattle.session.proofs.Finish.{Done, stopped, ended, nothing-left}
-use Rattle.session.proofs.Giving.{going-is, kept-before}
-use Rattle.session.proofs.Invariant.{Inv, unanswered-length}
+use Rattle.promises.specs.Promises.{Fitted, TooLong, keptBefore}
+use Rattle.promises.proofs.Carry.{more-text, not-idle, or-false}
+use Rattle.session.proofs.Cases.{offer-case}
+use Rattle.promises.proofs.Only.{offer-only}
+use Rattle.promises.proofs.Finish.{Done, stopped, ended, nothing-left}
+use Rattle.promises.proofs.Giving.{going-is, kept-before}
+use Rattle.promises.proofs.Invariant.{Inv, unanswered-length}
 
 -- # Beginnings of a list
 

@@ -13,11 +13,11 @@ use Rattle.definition.specs.Bounds.{maxInput}
 use Rattle.definition.specs.Definition.{bytesOf, endOf, goneLines, keptPart, rowsOf}
 use Rattle.definition.specs.Rows.{rowSize}
 use Rattle.definition.specs.Text.{handed, lines, text}
 use Rattle.session.specs.declared.Waiting.the-variants.{LineWaits}
 use Rattle.session.specs.Calls.{answered, offered, recorded, shownLine, told, waiting, waitingRefusal}
 use Rattle.session.specs.Held.{unanswered}
-use Rattle.session.specs.Run.{At, Run, Steps}
+use Rattle.promises.specs.Run.{At, Run, Steps}
 use Rattle.session.specs.Sound.{takenBytes}
 
 -- the end record is served
 abbrev pub Ends : At → Type 0

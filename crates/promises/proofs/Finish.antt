@@ -22,14 +22,14 @@ use Rattle.definition.proofs.Kept.{rows-stopped, state-append, state-stopped}
 use Rattle.definition.proofs.Terminator.{first-append, first-append-none}
 use Rattle.core.specs.Walk.{isOn, remainsAhead, walkEnd}
 use Rattle.core.proofs.Keeps.{is-on}
 use Rattle.session.specs.declared.Input.{Input}
 use Rattle.session.specs.declared.Input.the-variants.{Open, Ended, QuitFound}
 use Rattle.session.specs.declared.Session.{Session}
 use Rattle.session.specs.Calls.{goneThrough, isQuit, recordOf, recorded, recordedPlace, recording, remains, replacedIn, underConvert}
 use Rattle.session.specs.Held.{isOpen, unanswered}
 use Rattle.session.specs.Sound.{agrees, aheadBytes, takenBytes}
-use Rattle.session.proofs.Giving.{ended-text, going-is}
-use Rattle.session.proofs.Invariant.{Inv, InputNow, taken-is, unanswered-length}
+use Rattle.promises.proofs.Giving.{ended-text, going-is}
+use Rattle.promises.proofs.Invariant.{Inv, InputNow, taken-is, unanswered-length}
 
 -- # Whether a Quit byte was met
 

@@ -17,29 +17,29 @@ use Rattle.definition.specs.declared.Going.the-variants.{On, LimitMet, Nonmatch
 use Rattle.definition.specs.declared.Place.the-variants.{Nowhere}
 use Rattle.definition.specs.declared.Settings.{Settings}
 use Rattle.definition.specs.Definition.{lastOf, keptLines}
-use Rattle.definition.specs.Rows.{rowSize}
+use Rattle.definition.specs.Rows.{rowSize, rowsIn}
 use Rattle.definition.specs.State.{State, fateOf, begun, rows, state, trim}
 use Rattle.definition.specs.Text.{firstPlace, lines, upTo}
 use Rattle.definition.proofs.Kept.{before≤kept, since-counted, stepRows-most}
-use Rattle.definition.proofs.Lists.{length-lastOf}
+use Rattle.definition.proofs.Lists.{length-lastOf, rowsIn-put}
 use Rattle.definition.proofs.Terminator.{whole-none}
 use Rattle.core.specs.Answer.{AnswerDecision, AnswerRefused, Give, answeringSince, backFrom, beforeRows, belowOneSince, putRows, rowsSince, stateSince, walkNext}
 use Rattle.session.specs.declared.Input.{Input}
 use Rattle.session.specs.declared.Input.the-variants.{Open, Ended, QuitFound}
 use Rattle.session.specs.declared.Session.{Session}
 use Rattle.session.specs.declared.Waiting.the-variants.{LineWaits, NoneWaits, WaitingRefused}
 use Rattle.session.specs.Calls as Calls
 use Rattle.session.specs.Calls.{Idle, OfferDecision, OfferRefused, Take, answerAnswer, answerRows, answerSession, answerTable, answered, answeredTable, answering, belowOne, fresh, inputTold, offerAnswer, offerWindow, offered, offeredWindow, offering, opening, placesNext, replacedIn, stored, told, toldSession, waiting}
 use Rattle.session.specs.Held.{shown, sinceLines, unanswered, waits}
-use Rattle.session.specs.Promises.{keptBefore}
-use Rattle.session.specs.Run.{At, Run, Steps, here, offer, answer, ask, refused, tell, atStart, rowsIn}
+use Rattle.promises.specs.Promises.{keptBefore}
+use Rattle.promises.specs.Run.{At, Run, Steps, here, offer, answer, ask, refused, tell, atStart}
 use Rattle.session.specs.Sound.{agrees, sound}
 use Rattle.session.proofs.Agree.{agrees-of}
 use Rattle.session.proofs.Cases.{few}
-use Rattle.session.proofs.Giving.{inv-given, rowsIn-put, text-none}
-use Rattle.session.proofs.Invariant.{Inv, InputNow, sound-now}
+use Rattle.promises.proofs.Giving.{inv-given, text-none}
+use Rattle.promises.proofs.Invariant.{Inv, InputNow, sound-now}
 use Rattle.session.proofs.Keeps.{TakenIf, offer-taken, agree-fresh, agree-toldSession, served-fresh}
-use Rattle.session.proofs.Taking.{inv-taken}
+use Rattle.promises.proofs.Taking.{inv-taken}
 
 -- a refused answer changes nothing
 pub answer-unchanged : (o : AnswerDecision) (s : Session) (w table : List ℕ) (hit : Bool) → (answerAnswer o s w hit .refusal ≡ 0 → ⊥)

@@ -12,18 +12,18 @@ use Rattle.definition.specs.declared.Going.the-variants.{On}
 use Rattle.definition.specs.Rows.{rowSize}
 use Rattle.core.specs.Walk.{isOn}
 use Rattle.core.proofs.Keeps.{is-on}
 use Rattle.session.specs.declared.Input.the-variants.{Open}
 use Rattle.session.specs.declared.Session.{Session}
 use Rattle.session.specs.Calls.{answered, offered, offeredWindow, offering, remains}
 use Rattle.session.specs.Held.{isOpen, waits}
-use Rattle.session.specs.Promises.{Ends, NoRoom, Within}
-use Rattle.session.specs.Run.{At, Steps, here, offer, answer, tell, atAnswer, atEnd, atOffer}
-use Rattle.session.specs.Soon.{NoSize, Soon, callsFrom, nextCall}
+use Rattle.promises.specs.Promises.{Ends, NoRoom, Within}
+use Rattle.promises.specs.Run.{At, Steps, here, offer, answer, tell, atAnswer, atEnd, atOffer}
+use Rattle.promises.specs.Soon.{NoSize, Soon, callsFrom, nextCall}
 use Rattle.session.specs.Sound.{aheadBytes}
-use Rattle.session.proofs.Caller.{offer-unchanged}
-use Rattle.session.proofs.Carry.{answer-falls, ends-now, held-ends, is-open, nothing-held, offer-falls, offer-served, open-most, stopped-ends, told-falls, waiting-now, weight}
+use Rattle.promises.proofs.Caller.{offer-unchanged}
+use Rattle.promises.proofs.Carry.{answer-falls, ends-now, held-ends, is-open, nothing-held, offer-falls, offer-served, open-most, stopped-ends, told-falls, waiting-now, weight}
 use Rattle.session.proofs.Cases.{offer-case}
-use Rattle.session.proofs.History.{InvAt, answer-gives, inv-run, inv-steps, join, run-settings, steps-stay}
+use Rattle.promises.proofs.History.{InvAt, answer-gives, inv-run, inv-steps, join, run-settings, steps-stay}
 
 -- # One call
 

@@ -13,15 +13,15 @@ use Rattle.definition.specs.State.{begun, rows, state, trim}
 use Rattle.definition.specs.Text.{lines, part, text}
 use Rattle.definition.proofs.Terminator.{Whole}
 use Rattle.definition.proofs.Uncut.{Uncut}
 use Rattle.session.specs.declared.Input.{Input}
 use Rattle.session.specs.declared.Input.the-variants.{Open, Ended, QuitFound}
 use Rattle.session.specs.declared.Session.{Session}
 use Rattle.session.specs.Calls.{replacedIn}
 use Rattle.session.specs.Held.{shown, unanswered}
-use Rattle.session.specs.Promises.{Fitted}
+use Rattle.promises.specs.Promises.{Fitted}
 use Rattle.session.specs.Sound.{Agree, sound, takenBytes}
 use Rattle.session.proofs.Agree.{agrees-of}
 use Rattle.session.proofs.Parts.{part-length}
 
 -- how the input stands, for what is left of it
 abbrev pub InputNow : Settings → Input → List ℕ → Type 0

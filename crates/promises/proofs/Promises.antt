@@ -18,21 +18,21 @@ use Rattle.definition.proofs.Kept.{rows-append}
 use Rattle.definition.proofs.Same.{same-end, same-lines, same-rows}
 use Rattle.core.specs.Answer.{stateSince}
 use Rattle.core.specs.Walk.{shownAhead}
 use Rattle.session.specs.declared.Session.{Session}
 use Rattle.session.specs.declared.Waiting.the-variants.{LineWaits, NoneWaits}
 use Rattle.session.specs.Calls.{answered, offered, recorded, shownLine, waiting, waitingRefusal}
 use Rattle.session.specs.Held.{lineLength, shown, sinceLines, unanswered, waits}
-use Rattle.session.specs.Promises.{Account, Asked, Begins, Beginning, Prompt, Cut, Ends, Finished, Handed, Memory, NoRoom, Room, Served, TooLong, Within, answersOf}
-use Rattle.session.specs.Run.{At, Run, Steps}
+use Rattle.promises.specs.Promises.{Account, Asked, Begins, Beginning, Prompt, Cut, Ends, Finished, Handed, Memory, NoRoom, Room, Served, TooLong, Within, answersOf}
+use Rattle.promises.specs.Run.{At, Run, Steps}
 use Rattle.session.specs.Sound.{sound}
-use Rattle.session.proofs.Carry.{offer-served, record-served, told-served}
+use Rattle.promises.proofs.Carry.{offer-served, record-served, told-served}
 use Rattle.session.proofs.Cases.{offer-case}
-use Rattle.session.proofs.Finish.{record-same, rows-done, served-done, served-record, state-done}
-use Rattle.session.proofs.Giving.{line, lines-now}
-use Rattle.session.proofs.History.{answer-gives, inv-run, run-on, run-settings, steps-stay, waiting-line}
-use Rattle.session.proofs.Invariant.{Inv, sound-now, taken-is}
-use Rattle.session.proofs.Room.{cut-shorter, not-ended, not-past, same-count, too-long}
-use Rattle.session.proofs.Soon.{carried}
+use Rattle.promises.proofs.Finish.{record-same, rows-done, served-done, served-record, state-done}
+use Rattle.promises.proofs.Giving.{line, lines-now}
+use Rattle.promises.proofs.History.{answer-gives, inv-run, run-on, run-settings, steps-stay, waiting-line}
+use Rattle.promises.proofs.Invariant.{Inv, sound-now, taken-is}
+use Rattle.promises.proofs.Room.{cut-shorter, not-ended, not-past, same-count, too-long}
+use Rattle.promises.proofs.Soon.{carried}
 
 -- the part shown is the waiting line without its terminator
 pub shown-handed : (s : Session) (w : List ℕ) → waiting s w ≡ LineWaits → shownLine s w ≡ handed (s .walk .settings .terminator) (line s w)

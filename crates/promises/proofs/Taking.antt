@@ -17,25 +17,20 @@ use Rattle.definition.specs.Definition.{lastOf, quitMet, keptLines}
 use Rattle.definition.specs.State.{trim}
 use Rattle.definition.specs.Text.{firstPlace, lines, part, text, textUnder, upTo}
 use Rattle.definition.proofs.Lists.{lastOf-lastOf}
-use Rattle.definition.proofs.Terminator.{first-append, first-append-none, first-le, lines-drop, Whole, whole-drop}
+use Rattle.definition.proofs.Terminator.{first-append, first-append-none, lines-drop, Whole, whole-drop}
 use Rattle.definition.proofs.Uncut.{Uncut, length-replaced, text-append, uncut-append, upTo-drop, upTo-take}
 use Rattle.core.specs.Answer.{backFrom, stateSince}
 use Rattle.core.proofs.Back.{backFrom-last}
 use Rattle.session.specs.declared.Input.the-variants.{Open, QuitFound}
 use Rattle.session.specs.declared.Session.{Session}
 use Rattle.session.specs.Calls.{Idle, OfferDecision, OfferRefused, Take, beforeQuit, firstOf, offerAnswer, offered, offering, quitPlace, replacedIn, stored, storedWindow}
 use Rattle.session.specs.Held.{keptFrom, shown, sinceLines, unanswered}
 use Rattle.session.specs.Sound.{Agree}
-use Rattle.session.proofs.Invariant.{Inv, InputNow, taken-is, unanswered-length}
+use Rattle.promises.proofs.Invariant.{Inv, InputNow, taken-is, unanswered-length}
 use Rattle.session.proofs.Keeps.{Room, TakenIf, agree-stored, offer-taken}
-use Rattle.session.proofs.Parts.{kept-part, part-length, part-split}
+use Rattle.session.proofs.Parts.{kept-part, part-length, part-split, quit-le}
 
 -- # Bytes before a Quit byte
-
-pub quit-le : (k : Binary) (piece : List ℕ) → quitPlace k piece ≤ length piece
-quit-le Ignore piece = omega arith
-quit-le (Quit b) piece = first-le b piece
-quit-le (Convert b) piece = omega arith
 
 -- no more is taken than was offered
 pub taken-le : (s : Session) (w piece : List ℕ) → offered s w piece .taken ≤ length piece

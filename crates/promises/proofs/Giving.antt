@@ -2,7 +2,7 @@
 use Prim.Native.Nat.{ℕ, _+_, _-_, _≤_, _<_}
 use mathlib.Core.Path.{_≡_, refl, sym, _∙_, ap, ap₂, subst}
 use mathlib.Core.Bool.{Bool, true, false, cond, false≢true}
-use mathlib.Core.List.{List, [], _∷_, _++_, append-assoc, append-nil, cons≢nil, flatten, head-eq-of-cons-eq, map, tail-eq-of-cons-eq}
+use mathlib.Core.List.{List, [], _∷_, _++_, append-assoc, append-nil, cons≢nil, flatten, head-eq-of-cons-eq, tail-eq-of-cons-eq}
 use mathlib.Core.Logic.{_⊎_, inl, inr, ⊎-elim}
 use native.Mathlib.Omega.{arith}
 use lib.ListN.{length, take, drop, length-append, length-take, length-drop, take-append-drop}
@@ -15,7 +15,6 @@ use Rattle.definition.specs.declared.Binary.the-variants.{Ignore, Quit, Convert
 use Rattle.definition.specs.declared.Going.the-variants.{On}
 use Rattle.definition.specs.declared.Settings.{Settings}
 use Rattle.definition.specs.Definition.{bytesOf, lastOf, keptLines}
-use Rattle.definition.specs.Rows.{flat}
 use Rattle.definition.specs.State.{State, fateOf, nextLine, begun, rows, state, stateNext, stepRows, stepState, trim}
 use Rattle.definition.specs.Text.{firstPlace, lines, part, replaced, text, textUnder, upTo}
 use Rattle.definition.proofs.Lists.{flatten-append}
@@ -24,24 +23,16 @@ use Rattle.definition.proofs.Same.{same-lines}
 use Rattle.definition.proofs.Terminator.{lines-next, lines-one, Whole, whole-append, whole-line, whole-none}
 use Rattle.core.specs.Answer.{backFrom, getsRow, rowsSince, stateSince, walkNext, walkOf}
 use Rattle.core.proofs.Back.{backFrom-bytes, backFrom-last, backFrom-snoc}
 use Rattle.session.specs.declared.Input.{Input}
 use Rattle.session.specs.declared.Input.the-variants.{Open, Ended, QuitFound}
 use Rattle.session.specs.declared.Session.{Session}
 use Rattle.session.specs.Calls.{answerRows, answerSession, placesNext}
 use Rattle.session.specs.Held.{isOpen, keptBytes, lineLength, shown, sinceLines, unanswered, waits}
-use Rattle.session.specs.Promises.{Fitted, keptBefore}
-use Rattle.session.specs.Run.{rowsIn}
+use Rattle.promises.specs.Promises.{Fitted, keptBefore}
 use Rattle.session.specs.Sound.{Agree}
-use Rattle.session.proofs.Invariant.{Inv, InputNow, unanswered-length}
+use Rattle.promises.proofs.Invariant.{Inv, InputNow, unanswered-length}
 use Rattle.session.proofs.Keeps.{agree-given, line-le, waiting-length, why-waits}
 use Rattle.session.proofs.Parts.{kept-le, part-drop, part-none, part-split}
-
--- # Rows read back from the table
-
-pub rowsIn-put : (rs : List Row) (table : List ℕ) → rowsIn (length rs) (flatten (map flat rs) ++ table) ≡ rs
-unfolding rowsIn flatten
-rowsIn-put [] table = refl
-rowsIn-put (r ∷ rs) table = ap (λ xs. r ∷ xs) (rowsIn-put rs table)
 
 -- # One line more fitted
 

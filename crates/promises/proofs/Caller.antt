@@ -6,9 +6,9 @@ use mathlib.Core.List.{List, [], _∷_, _++_, flatten, map}
 use mathlib.Core.Logic.{_⊎_, inl, inr, ⊎-elim, _↔_}
 use native.Mathlib.Decide.{decLe, decLt}
 use native.Mathlib.Omega.{arith}
-use lib.Dec.{eqb, leb, ltb}
+use lib.Dec.{leb, ltb}
 use lib.ListN.{length, take, drop, length-append, length-drop, length-take}
-use lib.Seq.{drop-at, take-take}
+use lib.Seq.{drop-at}
 use borrow.Author.Tests.{le-leb, leb-true, le-ltb, lt-leb, lt-ltb, ltb-true, ne-eqb}
 use Rattle.definition.specs.declared.Row.{Row}
 use Rattle.definition.specs.declared.Going.{Going}
@@ -17,27 +17,28 @@ use Rattle.definition.specs.declared.Settings.{Settings}
 use Rattle.definition.specs.Bounds.{allowed, maxInput, maxWindow}
 use Rattle.definition.specs.Rows.{flat, rowSize}
 use Rattle.definition.specs.State.{stateNext}
-use Rattle.definition.specs.Text.{firstLength, firstPlace, handed, lines, part, upTo}
+use Rattle.definition.specs.Text.{firstLength, firstPlace, lines}
 use Rattle.definition.proofs.Terminator.{line-ends, lines-head, lines-rest, lines-whole}
 use Rattle.core.specs.Answer.{AnswerDecision, AnswerRefused, Give, answeringSince, putRows, stateSince, walkNext}
 use Rattle.core.specs.Walk.{isOn, shownAhead, waitsAhead}
 use Rattle.session.specs.declared.Input.{Input}
 use Rattle.session.specs.declared.Input.the-variants.{Open, Ended, QuitFound}
 use Rattle.session.specs.declared.Session.{Session}
 use Rattle.session.specs.declared.Waiting.{Waiting}
 use Rattle.session.specs.declared.Waiting.the-variants.{LineWaits, NoneWaits, WaitingRefused}
-use Rattle.session.specs.Calls.{Idle, OfferDecision, OfferRefused, Take, answerAnswer, answerRows, answerSession, answerTable, answered, answeredTable, answering, beforeQuit, belowOne, idle, inputTold, offerAnswer, offerWindow, offered, offeredWindow, offering, opened, opening, placesNext, quitFront, recorded, recording, remains, shownFrom, shownLine, stored, taking, told, toldSession, waiting, waitingRefusal, withInput}
-use Rattle.session.specs.Caller.{Agreeing, Answers, Balance, NothingTwice, OfferServed, Offers, Others, Progress, Reached, RefusalsChangeNothing, RowsStay, ShownThere, WhenAndOnlyThen, WindowStays, answers, loneBytes, offers, opens, tells, unfinishedBytes, unfinishedIn, waitingBytes, waitingIn, wholeBytes}
+use Rattle.session.specs.Calls.{Idle, OfferDecision, OfferRefused, Take, answerAnswer, answerRows, answerSession, answerTable, answered, answeredTable, answering, beforeQuit, belowOne, idle, inputTold, offerAnswer, offerWindow, offered, offeredWindow, offering, opened, opening, placesNext, quitFront, recorded, recording, remains, shownLine, stored, taking, told, toldSession, waiting, waitingRefusal, withInput}
+use Rattle.promises.specs.Caller.{Agreeing, Answers, Balance, NothingTwice, OfferServed, Offers, Others, Progress, Reached, RefusalsChangeNothing, RowsStay, WhenAndOnlyThen, WindowStays, answers, loneBytes, offers, opens, tells, unfinishedBytes, unfinishedIn, waitingBytes, waitingIn, wholeBytes}
 use Rattle.session.specs.Held.{heldBytes, isOpen, keptFrom, shown, sinceLines, unanswered, waits}
 use Rattle.session.specs.Sound.{Agree, agrees, closed, placesAgree, placesTests, sound, takenBytes}
 use Rattle.session.proofs.Agree.{agrees-of}
-use Rattle.session.proofs.Carry.{busy, fitting-some, front-quits, is-open, not-front, not-idle}
-use Rattle.session.proofs.Cases.{OfferCase, unsound, idling, quits, sized, full, takes, offer-case, offer-only, answer-only, AnswerCase, few, gives, none, below, answer-case}
+use Rattle.promises.proofs.Carry.{busy, fitting-some, front-quits, is-open, not-front, not-idle}
+use Rattle.session.proofs.Cases.{OfferCase, unsound, idling, quits, sized, full, takes, offer-case, AnswerCase, few, gives, none, below, answer-case}
+use Rattle.promises.proofs.Only.{offer-only, answer-only}
 use Rattle.session.proofs.Cases as Cases
-use Rattle.session.proofs.History.{answer-unchanged, answerRows-most}
-use Rattle.session.proofs.Invariant.{unanswered-length}
+use Rattle.promises.proofs.History.{answer-unchanged, answerRows-most}
+use Rattle.promises.proofs.Invariant.{unanswered-length}
 use Rattle.session.proofs.Keeps.{GivenIf, TakenIf, answer-given, offer-taken, line-le, agree-answer, agree-offer, agree-opened, agree-told, served-fresh}
-use Rattle.session.proofs.Taking.{stored-beyond, stored-length}
+use Rattle.promises.proofs.Taking.{stored-beyond, stored-length}
 
 -- # Reached sessions
 
@@ -273,52 +274,6 @@ window-stays-of s w piece (Take n quit) t =
 pub window-stays : WindowStays
 unfolding offered offeredWindow
 window-stays s w piece = window-stays-of s w piece (offering s w piece) (offer-taken s w piece)
-
--- # The part shown
-
--- the bytes before the first terminator are a front
-up-front : (t : ℕ) (xs : List ℕ) → upTo t xs ≡ take (length (upTo t xs)) xs
-unfolding upTo
-up-front t [] = refl
-up-front t (x ∷ xs) = go (eqb x t) (up-front t xs)
-  where
-    go : (b : Bool) → upTo t xs ≡ take (length (upTo t xs)) xs → cond b [] (x ∷ upTo t xs) ≡ take (length (cond b [] (x ∷ upTo t xs))) (x ∷ xs)
-    go true h = refl
-    go false h = ap (λ ys. x ∷ ys) h
-
--- of a front of a front
-front-there : (t l j : ℕ) (xs : List ℕ) → let shown = upTo t (take l (take j xs)) in shown ≡ take (length shown) xs
-front-there t l j xs =
-    let ys = take l (take j xs) in
-    let k = length (upTo t ys) in
-    let inside : k ≤ length ys = first-length t ys in
-    let size = length-take l (take j xs) in
-    up-front t ys ∙ take-take k l (take j xs) (omega (arith, inside, size)) ∙ take-take k j xs (omega (arith, inside, size, length-take j xs))
-  where
-    first-length : (t : ℕ) (xs : List ℕ) → length (upTo t xs) ≤ length xs
-    first-length t xs = omega (arith, ap length (up-front t xs), length-take (length (upTo t xs)) xs)
-
-part-there : (from n : ℕ) (w : List ℕ) → take n (drop from w) ≡ part from (from + n) w
-part-there from n w =
-    let e : from + n - from ≡ n = omega arith in
-    rw e
-
-pub shown-there : ShownThere
-unfolding shownLine shownFrom shownAhead unanswered handed
-shown-there s w = go (sound s (length w)) (waitsAhead (s .walk) (isOpen (s .places .input)) (unanswered s w))
-  where
-    line-here : List ℕ
-    line-here = upTo (s .walk .settings .terminator) (take (firstLength (s .walk .settings .terminator) (unanswered s w)) (unanswered s w))
-
-    go : (b v : Bool)
-        → let shown = cond b (cond v line-here []) [] in
-        shown ≡ part (cond b (s .places .next) 0) (cond b (s .places .next) 0 + length shown) w
-    go true true =
-        let next = s .places .next in
-        front-there (s .walk .settings .terminator) (firstLength (s .walk .settings .terminator) (unanswered s w)) (s .places .end - next) (drop next w)
-        ∙ part-there next (length line-here) w
-    go true false = part-there (s .places .next) 0 w
-    go false v = part-there 0 0 w
 
 -- # Nothing twice
 

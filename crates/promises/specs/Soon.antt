@@ -9,11 +9,11 @@ use lib.ListN.{length, take}
 use Rattle.definition.specs.declared.Settings.{Settings}
 use Rattle.definition.specs.Rows.{rowSize}
 use Rattle.core.specs.Walk.{isOn}
 use Rattle.session.specs.Calls.{offered}
 use Rattle.session.specs.Held.{isOpen, waits}
-use Rattle.session.specs.Promises.{Ends, NoRoom, Within}
-use Rattle.session.specs.Run.{At, Run, Steps, atAnswer, atEnd, atOffer}
+use Rattle.promises.specs.Promises.{Ends, NoRoom, Within}
+use Rattle.promises.specs.Run.{At, Run, Steps, atAnswer, atEnd, atOffer}
 use Rattle.session.specs.Sound.{aheadBytes}
 
 -- What is next, with one table lent to every answer: a line that waits is answered; else, while the run goes on and the input is open,
 -- all that is left is offered, or the end is told where nothing is left; else there is nothing to do.

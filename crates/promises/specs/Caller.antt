@@ -12,14 +12,14 @@ use Rattle.definition.specs.declared.Going.the-variants.{On}
 use Rattle.definition.specs.declared.Settings.{Settings}
 use Rattle.definition.specs.Bounds.{allowed, maxInput, maxWindow}
 use Rattle.definition.specs.Rows.{rowSize}
-use Rattle.definition.specs.Text.{firstPlace, lines, part}
+use Rattle.definition.specs.Text.{firstPlace, lines}
 use Rattle.core.specs.Walk.{isOn}
 use Rattle.session.specs.declared.Input.the-variants.{Open, QuitFound}
 use Rattle.session.specs.declared.Session.{Session}
 use Rattle.session.specs.declared.Waiting.the-variants.{LineWaits}
-use Rattle.session.specs.Calls.{answerRows, answered, answeredTable, belowOne, idle, noRecord, offered, offeredWindow, opened, quitFront, recorded, remains, shownFrom, shownLine, told, waiting, waitingRefusal}
+use Rattle.session.specs.Calls.{Plain, answerRows, answered, answeredTable, belowOne, idle, noRecord, offered, offeredWindow, opened, quitFront, recorded, remains, shownLine, told, waiting, waitingRefusal}
 use Rattle.session.specs.Held.{heldBytes, isOpen, unanswered, waits}
 use Rattle.session.specs.Sound.{agrees, closed, sound, takenBytes}
 
 -- A session reached from a served opening by any calls, with any windows, pieces, tables and answers, and the bytes taken by then,
 -- as the offers told them.
@@ -60,10 +60,6 @@ RefusalsChangeNothing =
     (s : Session) (w piece table : List ℕ) (hit : Bool) (c : Settings) (window : ℕ) → Unchanged s w piece table hit c window
 
 -- # "When, and only then"
-
--- a piece with bytes while the input is open and no stop has come, not led by a Quit byte, to a sound session
-abbrev pub Plain : Session → List ℕ → List ℕ → Type 0
-Plain s w piece = (sound s (length w) ≡ true) × (idle s piece ≡ false) × (quitFront s piece ≡ false)
 
 -- what is served: an idle piece, one led by a Quit byte, or one for which size and window have room; a waiting line is room enough,
 -- since nothing need be taken
@@ -155,13 +151,6 @@ abbrev pub Progress : Type 0
 Progress =
     (s : Session) (w piece : List ℕ) → waits s w ≡ false → s .places .input ≡ Open → s .walk .going ≡ On → 0 < length piece
     → (0 < offered s w piece .taken) ⊎ ((offered s w piece .session .places .input ≡ QuitFound) ⊎ (offered s w piece .refusal ≡ 0 → ⊥))
-
--- "The waiting line is shown as that part of the lent window itself": the bytes shown are the window's from the place told on.
-abbrev pub ShownThere : Type 0
-ShownThere =
-    (s : Session) (w : List ℕ)
-    → let from = shownFrom s (length w) in
-    shownLine s w ≡ part from (from + length (shownLine s w)) w
 
 -- "An answer writes at most B + 2 rows, from the table's front; other rows stay."
 abbrev pub RowsStay : Type 0

@@ -16,19 +16,20 @@ use Rattle.definition.specs.Text.{firstPlace, text}
 use Rattle.definition.proofs.Uncut.{text-append}
 use Rattle.core.specs.Walk.{isOn, remainsAhead, waitsAhead}
 use Rattle.core.proofs.Keeps.{is-on}
 use Rattle.session.specs.declared.Input.{Input}
 use Rattle.session.specs.declared.Input.the-variants.{Open, Ended, QuitFound}
 use Rattle.session.specs.declared.Session.{Session}
 use Rattle.session.specs.declared.Waiting.the-variants.{LineWaits}
 use Rattle.session.specs.Calls.{OfferDecision, answerSession, beforeQuit, fitting, idle, inputTold, offerAnswer, placesNext, quitFront, recorded, recording, remains, stored, taking, told, toldSession, waiting}
 use Rattle.session.specs.Held.{heldBytes, isOpen, keptFrom, unanswered, waits}
-use Rattle.session.specs.Promises.{Within}
+use Rattle.promises.specs.Promises.{Within}
 use Rattle.session.specs.Sound.{Agree, aheadBytes, takenBytes}
 use Rattle.session.proofs.Agree.{agrees-of}
 use Rattle.session.proofs.Cases.{OfferCase, unsound, idling, quits, sized, full, takes}
-use Rattle.session.proofs.Invariant.{Inv, sound-now, taken-is, unanswered-length}
+use Rattle.promises.proofs.Invariant.{Inv, sound-now, taken-is, unanswered-length}
 use Rattle.session.proofs.Keeps.{line-le, waiting-length}
-use Rattle.session.proofs.Taking.{quit-le, rest-text, take-uncut}
+use Rattle.promises.proofs.Taking.{rest-text, take-uncut}
+use Rattle.session.proofs.Parts.{quit-le}
 
 pub not-front : (b n : ℕ) → 0 < n → (eqb b 0 && ltb 0 n) ≡ false → 0 < b
 not-front b n h e = elim (decLe b 0) [
