@@ -1,7 +1,9 @@
 -- What the words behind a command's name ask for; a word that is out of reach makes the line unknown.
-use Prim.Native.Nat.{ℕ}
+use Prim.Native.Nat.{ℕ, _+_, _*_}
 use mathlib.Core.Bool.{cond, _&&_}
 use lib.Dec.{eqb, ltb}
+use Rattle.definition.specs.Bounds.{maxContext, maxWindow}
+use Rattle.definition.specs.Rows.{rowSize}
 use Rattle.line_words.specs.Numbers.{valueOf, withinOf}
 use Rattle.hex.specs.declared.Decoded.{Decoded}
 use Rattle.hex.specs.declared.Decoded.the-variants.{Bytes, NoBytes}
@@ -11,11 +13,11 @@ use Rattle.replay_words.specs.declared.Command.the-variants.{Answer, Len
 
 -- how many bytes the room has
 abbrev pub room : ℕ
-room = 65537
+room = maxWindow + 1
 
 -- how many numbers the table has
 abbrev pub table : ℕ
-table = 4016
+table = rowSize * (maxContext + 4)
 
 abbrev pub byteOf : Number → ℕ
 byteOf n = cond (ltb (valueOf n) 256) (valueOf n) 0
