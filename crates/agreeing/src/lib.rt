@@ -1,11 +1,13 @@
 // Whether a walk's numbers agree: its settings are allowed, and nothing contradicts what lies since the last line with a row and
 // ahead.
+#![tactic(auto)]
+
 ghost use Rattle.std.specs.Prelude.{◌≡◌, ◌+◌, nat_le};
 ghost use Rattle.definition.specs.Bounds.{allowed, contextual, limit_in_range, max_input};
 ghost use Rattle.driver_core.specs.Walk.{walk_agrees, within_limit};
 
-use driver_core::Walk;
 use definition::{Limit, Settings};
+use driver_core::Walk;
 
 // Whether context is asked for.
 pub fn has_context(c: Settings) -> bool

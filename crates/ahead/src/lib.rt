@@ -1,10 +1,12 @@
 // What lies ahead of a walk: the line that waits there, whether anything remains, and the end record once nothing does.
+#![tactic(auto)]
+
 ghost use Rattle.std.specs.Prelude.{◌≡◌, ◌||◌, if◌then◌else◌, ◌==◌};
 ghost use Rattle.definition.specs.Definition.{cause_of};
 ghost use Rattle.driver_core.specs.Walk.{is_on, line_ahead, remains_ahead, shown_ahead, walk_end};
 
-use driver_core::{LineAhead, Walk};
 use definition::{End, Going, Place};
+use driver_core::{LineAhead, Walk};
 use lines::Found;
 
 pub fn is_on(going: Going) -> bool

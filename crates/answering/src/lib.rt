@@ -1,5 +1,7 @@
 // Answering the waiting line, in a window: the line and the bytes since the last line with a row are lent to the core, and
 // the places move on.
+#![tactic(auto)]
+
 ghost use Rattle.std.specs.Prelude.{◌≡◌, ◌+◌, ◌≤◌};
 ghost use Rattle.std.proofs.Math.ListN as ListN;
 ghost use Rattle.session.specs.Calls.{answered, answered_table, places_next};

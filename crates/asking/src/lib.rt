@@ -1,4 +1,6 @@
 // Asking for the waiting line: whether there is one, and the part of the window that it is.
+#![tactic(auto)]
+
 ghost use Rattle.std.specs.Prelude.{◌≡◌, length};
 ghost use Rattle.session.specs.Calls.{shown_from, shown_line, waiting};
 ghost use Rattle.session.specs.Place.{place_in};

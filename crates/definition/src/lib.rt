@@ -1,17 +1,19 @@
 // The plain data that every layer shares: the settings of a search, how a run stands, and the sizes and bounds of
 // document 01.
+#![tactic(auto)]
+
 ghost use Rattle.std.specs.Prelude.{◌≡◌};
 ghost use Rattle.definition.specs.Bounds.{plain};
 
 // How many matches are wanted at most.
-#[derive(Drop)]
+#[derive(Clone, Copy)]
 pub enum Limit {
     Unlimited,
     Most(u64),
 }
 
 // What a byte that marks binary data does to the input.
-#[derive(Drop)]
+#[derive(Clone, Copy)]
 pub enum Binary {
     Ignore,
     Quit(u8),
@@ -19,7 +21,7 @@ pub enum Binary {
 }
 
 // Whether a run goes on, and if not, what stopped it.
-#[derive(Drop)]
+#[derive(Clone, Copy)]
 pub enum Going {
     On,
     LimitMet,
@@ -27,7 +29,7 @@ pub enum Going {
 }
 
 // What becomes of a line that is gone through.
-#[derive(Drop)]
+#[derive(Clone, Copy)]
 pub enum Fate {
     Match,
     After,
@@ -35,7 +37,7 @@ pub enum Fate {
     NoRow,
 }
 
-#[derive(Drop)]
+#[derive(Clone, Copy)]
 pub struct Settings {
     // lines of context wanted before and after a match
     pub before: usize,
@@ -70,7 +72,7 @@ impl Settings {
 }
 
 // Where a byte was met that the end record tells of, counting from 0.
-#[derive(Drop)]
+#[derive(Clone, Copy)]
 pub enum Place {
     Nowhere,
     At(u64),
@@ -78,7 +80,7 @@ pub enum Place {
 
 // A row: kind 1 match, 2 before, 3 after, 4 other, 5 break; the line's first byte, counting from 0, its length with
 // terminator, and its number from 1.
-#[derive(Drop)]
+#[derive(Clone, Copy)]
 pub struct Row {
     pub kind: u64,
     pub offset: u64,
@@ -87,7 +89,7 @@ pub struct Row {
 }
 
 // The end record.
-#[derive(Drop)]
+#[derive(Clone, Copy)]
 pub struct End {
     // gone through
     pub bytes: u64,

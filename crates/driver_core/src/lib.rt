@@ -1,10 +1,12 @@
 // The core that every way in shares, as the Rust's `Core`: a walk, how far a search has come through its lines, and one line
 // answered from there, as plain data. It knows no window: bytes are lent, wherever they lie. What is done is in specs/, as
 // functions of these; `agreeing`, `ahead`, `stepping`, `match_rows` and `giving` do it.
+#![tactic(auto)]
+
 use definition::{Fate, Going, Settings};
 
 // How far a search has come through its lines.
-#[derive(Drop)]
+#[derive(Clone, Copy)]
 pub struct Walk {
     pub settings: Settings,
     // gone through
@@ -19,14 +21,14 @@ pub struct Walk {
 }
 
 // The waiting line, by its length with terminator.
-#[derive(Drop)]
+#[derive(Clone, Copy)]
 pub enum LineAhead {
     Line(usize),
     NoLine,
 }
 
 // What the answer to a line gives: a refusal or 0, how many rows were written, and what became of the line.
-#[derive(Drop)]
+#[derive(Clone, Copy)]
 pub struct Given {
     pub refusal: u64,
     pub rows: usize,

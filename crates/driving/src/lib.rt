@@ -1,5 +1,7 @@
 // What every program over the driver does where no line waits, and when the end has come: the one place that decides between
 // the end record, an offer, a read and a refusal.
+#![tactic(auto)]
+
 ghost use Rattle.std.specs.Prelude.{◌≡◌};
 ghost use Rattle.machine.specs.Program.{fed, fed_by, fed_end, fed_window, stays};
 ghost use Rattle.session.specs.Calls.{offered, offered_window};
@@ -9,7 +11,7 @@ use machine::Next;
 use searcher::Searcher;
 
 // The searcher once it was fed, how many of the bytes at hand it took, and what comes next.
-#[derive(Drop)]
+#[derive(Clone, Copy)]
 pub struct Fed {
     pub searcher: Searcher,
     pub taken: usize,

@@ -1,4 +1,6 @@
 // The end of a search: the end of the input told, and the end record.
+#![tactic(auto)]
+
 ghost use Rattle.std.specs.Prelude.{◌≡◌, cond};
 ghost use Rattle.session.specs.Calls.{end_input, gone_through, input_told, is_quit, no_record, record_of, recorded, recorded_place, told, told_session};
 ghost use Rattle.session.specs.Sound.{Agree};

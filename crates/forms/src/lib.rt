@@ -1,4 +1,6 @@
 // The first line of an input, `before after invert pass limit`, and limits.
+#![tactic(auto)]
+
 ghost use Rattle.std.specs.Prelude.{◌≡◌};
 ghost use Rattle.forms.specs.First.{are_right, asked_by, asked_of, settings_of};
 ghost use Rattle.forms.specs.Limits.{limit_of};
@@ -7,14 +9,14 @@ use definition::{Limit, Settings};
 use line_words::Number;
 
 // What a word says as a limit.
-#[derive(Drop)]
+#[derive(Clone, Copy)]
 pub enum Bound {
     Is(Limit),
     NoBound,
 }
 
 // What a line asks for: a search with these settings, or it has another form.
-#[derive(Drop)]
+#[derive(Clone, Copy)]
 pub enum Asked {
     For(Settings),
     OtherForm,

@@ -1,5 +1,7 @@
 // One line answered: its rows into the table, and what became of it, from the bytes since the last line with a row, wherever
 // these lie.
+#![tactic(auto)]
+
 ghost use Rattle.std.specs.Prelude.{◌≡◌, ◌≤◌};
 ghost use Rattle.std.proofs.Math.ListN as ListN;
 ghost use Rattle.definition.specs.Bounds.{max_input};
@@ -8,8 +10,8 @@ ghost use Rattle.driver_core.specs.Walk.{WalkAgree};
 ghost use Rattle.match_rows.specs.MatchTable.{line_row};
 ghost use Rattle.giving.specs.Fated.{fated_given, fated_table, line_given, line_table, refused_by, served_by};
 
-use driver_core::{Given, Walk};
 use definition::Fate;
+use driver_core::{Given, Walk};
 
 // The bytes since the last line with a row, and the length of the line that is answered; refusals 6 and 4.
 pub fn answer(walk: Walk, since: &[u8], table: &mut [u64], hit: bool, length: usize) -> Given

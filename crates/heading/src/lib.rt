@@ -1,4 +1,6 @@
 // The two lines before the text: each has its newline, and at most 1,024 bytes before it.
+#![tactic(auto)]
+
 ghost use Rattle.std.specs.Prelude.{◌≡◌, ◌+◌, ◌≤◌, length};
 ghost use Rattle.session.specs.Calls.{opened};
 ghost use Rattle.search_machine.specs.declared.Stage.TheVariants.{First, Second};

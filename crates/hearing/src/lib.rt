@@ -1,4 +1,6 @@
 // What a read gave: bytes, the end, a signal or a failure, each as the machine hears it.
+#![tactic(auto)]
+
 ghost use Rattle.std.specs.Prelude.{◌≡◌, List, ℕ, ◌+◌, ◌≤◌, length};
 ghost use Rattle.streams.specs.declared.Moved.TheVariants.{Nothing};
 ghost use Rattle.search_machine.specs.declared.Stage.TheVariants.{Text};

@@ -1,5 +1,7 @@
 // The places of a session in its window: whether they agree with each other and with the walk, the line that waits there,
 // and where the kept part starts.
+#![tactic(auto)]
+
 ghost use Rattle.std.specs.Prelude.{◌≡◌, ◌+◌, ◌-◌, ◌≤◌, length};
 ghost use Rattle.driver_core.specs.Walk.{line_ahead};
 ghost use Rattle.definition.specs.Bounds.{max_context, max_input};
@@ -7,8 +9,8 @@ ghost use Rattle.definition.specs.Definition.{kept_lines};
 ghost use Rattle.session.specs.Held.{is_open, kept_from, unanswered};
 ghost use Rattle.session.specs.Sound.{agrees, places_agree, sound, taken_bytes};
 
-use driver_core::LineAhead;
 use definition::Settings;
+use driver_core::LineAhead;
 use session::{Input, Places, Session};
 
 pub fn is_open(input: Input) -> bool

@@ -1,4 +1,6 @@
 // Bytes as hexadecimal digits, two lower-case ones a byte or `-` for none, both ways.
+#![tactic(auto)]
+
 ghost use Rattle.std.specs.Prelude.{◌≡◌, ◌+◌, ◌*◌, ◌≤◌, ◌<◌, leb, length};
 ghost use Rattle.output.specs.Output.{collected, collected_in};
 ghost use Rattle.hex_text.specs.Hex.{DecodedWithin, glyph_of, hex_text};
@@ -6,7 +8,7 @@ ghost use Rattle.hex_text.specs.Hex.{DecodedWithin, glyph_of, hex_text};
 use output::Pending;
 
 // How many bytes a word gave.
-#[derive(Drop)]
+#[derive(Clone, Copy)]
 pub enum Decoded {
     Bytes(usize),
     NoBytes,

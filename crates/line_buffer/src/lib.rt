@@ -1,5 +1,7 @@
 // What line_buffer.rs does with its buffer, over a lent window: the held part moves to the front, and a piece is taken in
 // behind it, converted where that is set.
+#![tactic(auto)]
+
 ghost use Rattle.std.specs.Prelude.{◌≡◌, ◌+◌, ◌≤◌, cond, ◌++◌, eqb, length, drop};
 ghost use Rattle.definition.specs.Text.{put_at, replaced};
 ghost use Rattle.line_buffer.specs.Buffer.{converted, rolled};

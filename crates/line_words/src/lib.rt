@@ -1,4 +1,6 @@
 // The words of a line, which single spaces separate, and the decimal numbers that they write.
+#![tactic(auto)]
+
 ghost use Rattle.std.specs.Prelude.{◌≡◌, cond};
 ghost use Rattle.definition.specs.Text.{up_to};
 ghost use Rattle.line_words.specs.Numbers.{decimal_of, digit_behind, digits_behind, is_dash, is_number, value_of, within_of};
@@ -7,7 +9,7 @@ ghost use Rattle.line_words.specs.Words.{space, spaces_of, word_of};
 use lines::Found;
 
 // What a word says as a number.
-#[derive(Drop)]
+#[derive(Clone, Copy)]
 pub enum Number {
     Value(u64),
     NoNumber,

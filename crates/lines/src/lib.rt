@@ -1,11 +1,13 @@
 // What lines.rs does: where a byte stands first, where the next line ends, where the last lines start, how many there are,
 // and a line without its terminator. Each over lent bytes, for any terminator byte.
+#![tactic(auto)]
+
 ghost use Rattle.std.specs.Prelude.{◌≡◌, length};
 ghost use Rattle.definition.specs.Text.{first_length, first_place, lines};
 ghost use Rattle.lines.specs.Lines.{found, last_start, without_terminator};
 
 // The place of a byte, counting from 0.
-#[derive(Drop)]
+#[derive(Clone, Copy)]
 pub enum Found {
     At(usize),
     Nothing,

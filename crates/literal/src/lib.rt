@@ -2,6 +2,7 @@
 //
 // Two bytes of the literal are looked for at many places at once, and the whole literal is compared only where both stand.
 // The loop over a fixed count of places, `literal_places::any_hit`, has no branch in it, so that it becomes vector code.
+#![tactic(auto)]
 
 ghost use Rattle.std.specs.Prelude.{◌≡◌, ◌+◌, ◌≤◌};
 ghost use Rattle.literal_places.specs.Literal.{stands};

@@ -1,5 +1,6 @@
 // The literal matcher for programs in C and Rust: a slice is a pointer and a length, and a name is the whole program's.
 // bench/literal holds it to other searches.
+#![tactic(auto)]
 
 ghost use Rattle.std.specs.Prelude.{◌≡◌};
 ghost use Rattle.rare_bytes.specs.Choice.{chosen};

@@ -1,4 +1,5 @@
 // Whether a literal stands at a place of a line: one place at a time, or many at once by two bytes of the literal.
+#![tactic(auto)]
 
 ghost use Rattle.std.specs.Prelude.{◌≡◌, ◌+◌, ◌≤◌, length, drop};
 ghost use Rattle.literal_places.specs.Literal.{starts_with};

@@ -1,10 +1,12 @@
 // What a program over the driver does between a read and a write, as plain data. What it does is in specs/, as functions of
 // lists, and with it what every such program is promised.
+#![tactic(auto)]
+
 use definition::End;
 use session::Session;
 
 // What comes next where no line waits: go on, read more, tell a refusal, or tell the end record.
-#[derive(Drop)]
+#[derive(Clone, Copy)]
 pub enum Next {
     Goes,
     Wants,
@@ -13,7 +15,7 @@ pub enum Next {
 }
 
 // The session once it was fed, and how many of the bytes at hand it took.
-#[derive(Drop)]
+#[derive(Clone, Copy)]
 pub struct Fed {
     pub session: Session,
     pub taken: usize,

@@ -1,17 +1,19 @@
 // The rows of a match: which lines come as before-context, whether a break comes before them, and the numbers of all of
 // them in the table, from the bytes since the last line with a row.
+#![tactic(auto)]
+
 ghost use Rattle.std.specs.Prelude.{◌≡◌, ◌*◌, ◌≤◌};
 ghost use Rattle.std.proofs.Math.ListN as ListN;
 ghost use Rattle.definition.specs.Bounds.{max_input};
 ghost use Rattle.definition.specs.Rows.{row_size};
 ghost use Rattle.match_rows.specs.MatchTable.{Placing, before_of, break_table, gap_before, line_row, match_table};
 
-use driver_core::Walk;
 use definition::Row;
+use driver_core::Walk;
 
 // The lines that come as before-context: where they start in the bytes since the last line with a row, and how many they
 // are.
-#[derive(Drop)]
+#[derive(Clone, Copy)]
 pub struct Before {
     pub from: usize,
     pub lines: usize,

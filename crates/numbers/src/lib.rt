@@ -1,4 +1,6 @@
 // The lesser of two lengths, said once for every crate that takes no more than there is.
+#![tactic(auto)]
+
 ghost use Rattle.std.specs.Prelude.{◌≡◌, min};
 
 pub fn least(a: usize, b: usize) -> usize

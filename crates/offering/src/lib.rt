@@ -1,4 +1,6 @@
 // Offering a piece: first what is to be done, in the order of the refusals, then the window's bytes and the session.
+#![tactic(auto)]
+
 ghost use Rattle.std.specs.Prelude.{◌≡◌, ◌≤◌, false, not, ◌&&◌, length, if◌then◌else◌, ◌==◌};
 ghost use Rattle.session.specs.declared.Input.TheVariants.{Open, QuitFound};
 ghost use Rattle.session.specs.Calls.{idle, offered, offered_window, stored, stored_window};
@@ -10,7 +12,7 @@ use session::{Input, OfferOutcome, Places, Session};
 
 // What an offer does: refuse by a number, change nothing, or move the window's bytes from a place on to its front and
 // take some bytes in, and whether a Quit byte comes next after them.
-#[derive(Drop)]
+#[derive(Clone, Copy)]
 pub enum Plan {
     Refuse(u64),
     Nothing,

@@ -1,4 +1,6 @@
 // Opening a search: a fresh session, or, refused, the closed one.
+#![tactic(auto)]
+
 ghost use Rattle.std.specs.Prelude.{◌≡◌};
 ghost use Rattle.session.specs.Calls.{fresh, opened};
 ghost use Rattle.session.specs.Sound.{closed, places_start};

@@ -1,4 +1,6 @@
 // What a program collects before it writes: text and numbers in a lent buffer, which it writes before it waits for more input.
+#![tactic(auto)]
+
 ghost use Rattle.std.specs.Prelude.{◌≡◌, ◌+◌, ◌≤◌, leb, length};
 ghost use Rattle.definition.specs.Text.{put_at};
 ghost use Rattle.output.specs.Output.{added, collected, collected_in, decimal, none};

@@ -1,4 +1,6 @@
 // What the programs print: rows, the end record, a refusal. Each is collected behind what is pending.
+#![tactic(auto)]
+
 ghost use Rattle.std.specs.Prelude.{◌∷◌, ◌*◌, ◌+◌, ◌≤◌, get_or, length};
 ghost use Rattle.definition.specs.Rows.{row_size};
 ghost use Rattle.output.specs.Output.{Tells, decimal};

@@ -1,5 +1,6 @@
 // Which two bytes of a literal are looked for first. Any two give the right answer; the rarer they are in the text, the
 // fewer places are compared in vain.
+#![tactic(auto)]
 
 ghost use Rattle.std.specs.Prelude.{◌≡◌};
 ghost use Rattle.definition.specs.Text.{first_place};
@@ -7,7 +8,7 @@ ghost use Rattle.rare_bytes.specs.Choice.{chosen, common, rarest_but};
 
 // Two places in a literal, whose bytes are looked for first. Laid out as in C, for callers from there.
 #[repr(C)]
-#[derive(Drop)]
+#[derive(Clone, Copy)]
 pub struct Pair {
     pub first: usize,
     pub second: usize,

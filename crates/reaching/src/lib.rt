@@ -1,5 +1,7 @@
 // How far a piece reaches: how many of its bytes come before a Quit byte and have room, and the first of them that is
 // replaced.
+#![tactic(auto)]
+
 ghost use Rattle.std.specs.Prelude.{◌≡◌, ◌≤◌};
 ghost use Rattle.definition.specs.Bounds.{max_input, max_window};
 ghost use Rattle.session.specs.Calls.{first_of, quit_place, replaced_in};
@@ -9,7 +11,7 @@ use definition::{Binary, Place};
 use lines::Found;
 
 // How many bytes of a piece come in, and whether a Quit byte comes next after them.
-#[derive(Drop)]
+#[derive(Clone, Copy)]
 pub struct Reach {
     pub taken: usize,
     pub quit: bool,

@@ -1,5 +1,7 @@
 // What `replay` says of a call, and of the search and the lent parts as they stand; and `poke`, which makes no call and
 // overwrites bytes of the room. A line of another form ends the script.
+#![tactic(auto)]
+
 use output::Pending;
 use replay_calls::Called;
 use replay_says::Said;

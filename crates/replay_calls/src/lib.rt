@@ -1,5 +1,7 @@
 // The calls that `replay`'s commands make, and the search that they leave. What is said of a call is in `replay_answers`; the
 // commands are listed in `replaying`.
+#![tactic(auto)]
+
 use definition::Settings;
 use forms::Asked;
 use replay_says::Said;
@@ -7,7 +9,7 @@ use replay_words::{Command, ROOM};
 use searcher::Searcher;
 
 // How the script stands.
-#[derive(Drop)]
+#[derive(Clone, Copy)]
 pub struct Script {
     pub searcher: Searcher,
     // how many bytes of the room are lent
@@ -17,7 +19,7 @@ pub struct Script {
 }
 
 // What a call gave; no more than the search as it was where the command makes none.
-#[derive(Drop)]
+#[derive(Clone, Copy)]
 pub struct Called {
     pub searcher: Searcher,
     pub lent: usize,

@@ -1,5 +1,7 @@
 // The lines of `replay`'s standard input, one after another. What is collected is written before more input is waited for,
 // and a long script is read in large pieces.
+#![tactic(auto)]
+
 ghost use Rattle.std.specs.Prelude.{◌≡◌, ◌≤◌, length};
 ghost use Rattle.replay_input.specs.Input.{EndsBefore, is_end};
 
@@ -9,7 +11,7 @@ use replay_says::Said;
 use streams::Moved;
 
 // The line that was found lies from `start` to `end`, what is not yet gone through from `from` to `to`.
-#[derive(Drop)]
+#[derive(Clone, Copy)]
 pub struct Reading {
     pub start: usize,
     pub end: usize,

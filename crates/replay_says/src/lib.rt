@@ -1,5 +1,7 @@
 // What `replay` says: texts and numbers are collected in the lent output, which is written before more input is waited for.
 // It knows no searcher, so that a command takes and gives no more than what it says.
+#![tactic(auto)]
+
 ghost use Rattle.std.specs.Prelude.{◌≡◌, true, false, [], ◌∷◌, min, ◌+◌, ◌≤◌, length};
 ghost use Rattle.definition.specs.Rows.{row_size};
 ghost use Rattle.output.specs.Output.{collected, collected_in, decimal};
@@ -8,7 +10,7 @@ ghost use Rattle.io.specs.Counts.{IsPrefixLen};
 use output::Pending;
 
 // What is collected, and whether the script is over: by a bad line, its end or a failure.
-#[derive(Drop)]
+#[derive(Clone, Copy)]
 pub struct Said {
     pub pending: Pending,
     pub over: bool,

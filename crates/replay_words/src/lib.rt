@@ -1,5 +1,7 @@
 // A line of a script for `replay`, as words: which command it is, with its numbers, and the settings of an opening. What
 // each command does is in `replay_calls` and `replay_answers`; the commands are listed in `replaying`.
+#![tactic(auto)]
+
 ghost use Rattle.std.specs.Prelude.{◌≡◌};
 ghost use Rattle.line_words.specs.Numbers.{within_of};
 ghost use Rattle.replay_words.specs.Commands.{answer_of, byte_of, lend_of, offer_of, table_of};
@@ -16,7 +18,7 @@ pub const ROOM: usize = definition::MAX_WINDOW + 1;
 pub const TABLE: usize = definition::ROW * (definition::MAX_CONTEXT + 4);
 
 // What a line asks for. Bytes that it writes stand at the front of the bytes lent to `command_of`.
-#[derive(Drop)]
+#[derive(Clone, Copy)]
 pub enum Command {
     Open,
     // so many bytes
@@ -36,7 +38,7 @@ pub enum Command {
     Unknown,
 }
 
-#[derive(Drop)]
+#[derive(Clone, Copy)]
 enum Marks {
     Are(Binary),
     NoMarks,

@@ -3,6 +3,8 @@
 // form is answered by `bad line` with its number, and ends the program.
 //
 // What a command gives is written before more input is waited for; a long script is read and answered in large pieces.
+#![tactic(auto)]
+
 mod command;
 
 use replay_words::{ROOM, TABLE};

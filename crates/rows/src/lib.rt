@@ -1,4 +1,6 @@
 // Rows into the caller's table of numbers, four a row: what the Rust hands to a sink.
+#![tactic(auto)]
+
 ghost use Rattle.std.specs.Prelude.{◌≡◌, ◌+◌, ◌*◌, ◌≤◌, length};
 ghost use Rattle.definition.specs.Rows.{flat, row_size};
 ghost use Rattle.definition.specs.Text.{lines, put_at};

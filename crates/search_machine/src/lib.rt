@@ -1,11 +1,13 @@
 // How the program `search` stands between two turns, as plain data. What it does is in specs/, as a machine on lists, and with it
 // what it is promised to print.
+#![tactic(auto)]
+
 use output::Pending;
 use rare_bytes::Pair;
 use searcher::Searcher;
 
 // What is looked for at the front of what was read: the first line, the second, or the lines of the text.
-#[derive(Drop)]
+#[derive(Clone, Copy)]
 pub enum Stage {
     First,
     Second,
@@ -13,14 +15,14 @@ pub enum Stage {
 }
 
 // What comes next: a turn, a read, or nothing.
-#[derive(Drop)]
+#[derive(Clone, Copy)]
 pub enum Phase {
     Going,
     Wants,
     Over,
 }
 
-#[derive(Drop)]
+#[derive(Clone, Copy)]
 pub struct Search {
     pub stage: Stage,
     pub phase: Phase,
@@ -36,7 +38,7 @@ pub struct Search {
 }
 
 // How a line before the text stands that starts at the front of some bytes.
-#[derive(Drop)]
+#[derive(Clone, Copy)]
 pub enum Seen {
     Whole(usize),
     Unfinished,

@@ -1,22 +1,24 @@
 // The public door: a searcher is a small value that each call takes and hands back. It is opened, offered pieces, asked
 // for the waiting line, answered, told of the end, and asked for the end record. Each call serves any arguments whatever.
+#![tactic(auto)]
+
 ghost use Rattle.searcher.specs.Outcomes.{Answers, Closes, Offers, Opens, Records, Shows, TellsEnd, Waits};
 
 use definition::Settings;
 use session::{Recorded, Session, Waiting};
 
-#[derive(Drop)]
+#[derive(Clone, Copy)]
 pub struct Searcher {
     pub session: Session,
 }
 
-#[derive(Drop)]
+#[derive(Clone, Copy)]
 pub struct Opened {
     pub refusal: u64,
     pub searcher: Searcher,
 }
 
-#[derive(Drop)]
+#[derive(Clone, Copy)]
 pub struct Offered {
     pub refusal: u64,
     // how many bytes of the piece were taken
@@ -24,7 +26,7 @@ pub struct Offered {
     pub searcher: Searcher,
 }
 
-#[derive(Drop)]
+#[derive(Clone, Copy)]
 pub struct Answered {
     pub refusal: u64,
     // how many rows were written
@@ -32,7 +34,7 @@ pub struct Answered {
     pub searcher: Searcher,
 }
 
-#[derive(Drop)]
+#[derive(Clone, Copy)]
 pub struct Told {
     pub refusal: u64,
     pub searcher: Searcher,

@@ -1,5 +1,7 @@
 // The driver's loop for programs in C and Rust: a text in memory is offered piece by piece and searched for a literal. The
 // rows are summed up and not handed over, so that a caller can time the loop alone, as bench/run does.
+#![tactic(auto)]
+
 ghost use Rattle.std.specs.Prelude.{◌*◌, ◌≤◌, length};
 ghost use Rattle.definition.specs.Rows.{row_size};
 
@@ -9,13 +11,13 @@ use machine::Next;
 use searcher::Searcher;
 
 // How many rows there were, and a number mixed of all their numbers.
-#[derive(Drop)]
+#[derive(Clone, Copy)]
 pub struct Sum {
     pub rows: u64,
     pub mixed: u64,
 }
 
-#[derive(Drop)]
+#[derive(Clone, Copy)]
 pub struct Searched {
     pub searcher: Searcher,
     pub refusal: u64,

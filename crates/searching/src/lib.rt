@@ -3,6 +3,7 @@
 // that, `refused` with the refusal's number, or `failed read`.
 //
 // Its buffers are here; what it does with them is in `serving`.
+#![tactic(auto)]
 
 // The rows of an answer: at most so many before, a break and a match.
 const TABLE: usize = definition::ROW * (definition::MAX_CONTEXT + 2);

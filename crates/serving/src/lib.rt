@@ -1,5 +1,7 @@
 // The whole run on lent buffers: a read or some turns, then a write, until all is told. What is done between a read and a write is
 // that of `search_machine`; `serve` and `step` alone read and write.
+#![tactic(auto)]
+
 ghost use Rattle.search_machine.specs.Standing.{Collects, Lent, Ready, Rests, Stepped, Turned, seen, written_out};
 
 use search_machine::{Phase, Search, Stage};

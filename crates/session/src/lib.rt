@@ -1,9 +1,11 @@
 // A session's state and the outcomes of its calls, as plain data. What the calls do is in specs/, as functions of these.
-use driver_core::Walk;
+#![tactic(auto)]
+
 use definition::{End, Place};
+use driver_core::Walk;
 
 // How the input stands.
-#[derive(Drop)]
+#[derive(Clone, Copy)]
 pub enum Input {
     Open,
     Ended,
@@ -12,7 +14,7 @@ pub enum Input {
 }
 
 // The places in a window, and how the input stands.
-#[derive(Drop)]
+#[derive(Clone, Copy)]
 pub struct Places {
     // the window's length; 0 in a closed session
     pub window: usize,
@@ -26,7 +28,7 @@ pub struct Places {
     pub replaced: Place,
 }
 
-#[derive(Drop)]
+#[derive(Clone, Copy)]
 pub struct Session {
     // knows no window
     pub walk: Walk,
@@ -34,27 +36,27 @@ pub struct Session {
 }
 
 // Whether a line waits; the last is refusal 6.
-#[derive(Drop)]
+#[derive(Clone, Copy)]
 pub enum Waiting {
     LineWaits,
     NoneWaits,
     WaitingRefused,
 }
 
-#[derive(Drop)]
+#[derive(Clone, Copy)]
 pub struct OpenOutcome {
     pub refusal: u64,
     pub session: Session,
 }
 
-#[derive(Drop)]
+#[derive(Clone, Copy)]
 pub struct OfferOutcome {
     pub refusal: u64,
     pub taken: usize,
     pub session: Session,
 }
 
-#[derive(Drop)]
+#[derive(Clone, Copy)]
 pub struct AnswerOutcome {
     pub refusal: u64,
     // how many rows were written
@@ -62,13 +64,13 @@ pub struct AnswerOutcome {
     pub session: Session,
 }
 
-#[derive(Drop)]
+#[derive(Clone, Copy)]
 pub struct TellOutcome {
     pub refusal: u64,
     pub session: Session,
 }
 
-#[derive(Drop)]
+#[derive(Clone, Copy)]
 pub struct Recorded {
     pub refusal: u64,
     pub end: End,

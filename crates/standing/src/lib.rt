@@ -1,5 +1,7 @@
 // How `search` stands next. Each function but `start` makes one `Search` from another and feeds the driver nothing; `wanting` alone touches a
 // buffer.
+#![tactic(auto)]
+
 ghost use Rattle.std.specs.Prelude.{◌≡◌, List, ℕ, ◌+◌, ◌≤◌, ◌<◌, length};
 ghost use Rattle.line_buffer.specs.Buffer.{rolled};
 ghost use Rattle.search_machine.specs.Search.{starts};

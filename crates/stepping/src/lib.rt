@@ -1,4 +1,6 @@
 // A walk's steps: before any line, what becomes of the next one by its answer, and the walk after it.
+#![tactic(auto)]
+
 ghost use Rattle.std.specs.Prelude.{◌≡◌, ◌-◌, ◌≤◌};
 ghost use Rattle.definition.specs.Bounds.{max_input};
 ghost use Rattle.definition.specs.Definition.{after_left_next, fate, going_next, is_match, limit_reached, matches_next, selected};
@@ -7,8 +9,8 @@ ghost use Rattle.driver_core.specs.Answer.{gets_row};
 ghost use Rattle.driver_core.specs.Step.{Stepping, walk_step};
 ghost use Rattle.driver_core.specs.Walk.{walk_start};
 
-use driver_core::Walk;
 use definition::{Fate, Going, Limit, Settings};
+use driver_core::Walk;
 
 fn limit_reached(limit: Limit, matches: u64) -> bool
     ensures { result ≡ limit_reached limit matches }

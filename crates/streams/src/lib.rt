@@ -1,4 +1,6 @@
 // The programs' standard input and output. What a call of read or write did is a function of the count that it gave.
+#![tactic(auto)]
+
 ghost use Rattle.std.specs.Prelude.{◌≡◌, ◌≤◌, length};
 ghost use Rattle.output.specs.Output.{collected, collected_in};
 ghost use Rattle.streams.specs.Moves.{MovedWithin, failed_read, left_of, moved_of, unmoved_by};
@@ -7,7 +9,7 @@ use libc::{EINTR, STDIN_FILENO, STDOUT_FILENO};
 use output::Pending;
 
 // What a call of read or write did: it moved so many bytes, or none; or a signal came first, or it failed, with this errno.
-#[derive(Drop)]
+#[derive(Clone, Copy)]
 pub enum Moved {
     Bytes(usize),
     Nothing,
@@ -16,7 +18,7 @@ pub enum Moved {
 }
 
 // What is left of a text after a write: nothing, its last so many bytes, or what cannot be written.
-#[derive(Drop)]
+#[derive(Clone, Copy)]
 pub enum Left {
     Done,
     More(usize),

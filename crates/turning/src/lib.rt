@@ -1,4 +1,6 @@
 // The lines of the text: each is shown, matched, answered, and its rows printed; where none waits the driver is fed.
+#![tactic(auto)]
+
 ghost use Rattle.std.specs.Prelude.{◌≡◌};
 ghost use Rattle.search_machine.specs.declared.Stage.TheVariants.{Text};
 ghost use Rattle.search_machine.specs.Standing.{Ready, Turned, seen};

@@ -1,5 +1,7 @@
 // 01's T through a window of 6 bytes: prints the rows of P2, one a line. A program over the driver with a matcher and an output
 // of its own; all else is `driving`.
+#![tactic(auto)]
+
 ghost use Rattle.std.specs.Prelude.{◌<◌};
 
 use definition::Settings;
