@@ -22,7 +22,44 @@ ALONE = re.compile(r"(?:search rules|omega arith|refl|tt)$")
 
 
 def norm(name):
-    return name.replace("-", "_")
+    return name.replace("-", "_").lower()
+
+
+def components(text):
+    """The parts of a tuple that is all of a term, or None."""
+    text = text.strip()
+    if not (text.startswith("(") and text.endswith(")")):
+        return None
+    parts, depth, at = [], 0, 1
+    for i, ch in enumerate(text):
+        if ch in "([":
+            depth += 1
+        elif ch in ")]":
+            depth -= 1
+            if depth == 0 and i + 1 < len(text):
+                return None
+        elif ch == "," and depth == 1:
+            parts.append(text[at:i].strip())
+            at = i + 1
+    last = text[at:-1].strip()
+    if last:
+        parts.append(last)
+    return parts if len(parts) > 1 else None
+
+
+def recorded(body, names):
+    """A body that ends in a tuple, as the record that is asked; the `let`s before it stay."""
+    m = None
+    for m in re.finditer(r"\bin\s*(?=\()", body):
+        if components(body[m.end():]):
+            break
+    else:
+        m = None
+    start = m.end() if m else 0
+    parts = components(body[start:])
+    if not parts or len(parts) != len(names):
+        return None
+    return body[:start].rstrip() + (" " if start else "") + "record { " + " ".join(f"{n} = {x};" for n, x in zip(names, parts)) + " }"
 
 
 def declarations(text):
@@ -75,6 +112,7 @@ class Function:
     def __init__(self, crate, path, generated):
         self.crate, self.path, self.json = crate, path, generated
         self.place = {p[0]: p for p in generated["places"]}
+        self.arm = {p[0]: a for p, a in zip(generated["places"], generated["arms"])}
         self.notes = []
 
     def up(self, place, n):
@@ -109,17 +147,21 @@ class Function:
             return ".".join(["c"] + rest)
         if first in ("well-formed", "good"):
             return ".".join(["c", "well_formed"] + rest[1:])
+        p, best = place, None
+        while p is not None:
+            arm = self.arm.get(p)
+            for new, step, fields in (arm[2] if arm else ()):
+                if fields and norm(step) == norm(first) and rest[1:1 + len(fields)] == fields:
+                    if best is None or len(fields) > best[0]:
+                        best = (len(fields), f"{arm[0]}.{new}")
+            p = self.place[p][1]
+        if best:
+            return ".".join(["c", best[1]] + rest[1 + best[0]:])
         new = self.step(place, n, first)
         if new is None:
             self.notes.append(f"no step {first} at {place}")
             return ".".join(["c", "?" + first] + rest[1:])
         rest = rest[1:]
-        # what an arm's pattern binds, and that the value is that variant
-        if rest and rest[0] == "given":
-            if rest[1:2] == ["1"]:
-                rest = ["is"] + rest[2:]
-            elif rest[1:2] == ["0"]:
-                rest = ["field-" + (rest[2] if len(rest) > 2 else "0")] + rest[3:]
         return ".".join(["c", new] + rest)
 
     def turn(self, body, place, bound="c"):
@@ -302,6 +344,12 @@ class Function:
         lines = d["comment"] + [f"pub {goal} : goal.{goal}"]
         if unfolding:
             lines.append("unfolding " + " ".join(sorted(unfolding)))
+        asked = self.json["asked"].get(self.json["needs"][j][0])
+        if asked:
+            new = recorded(body, asked)
+            if new is None:
+                self.notes.append(f"{goal} asks {asked}")
+            body = new or body
         if lets:
             body = "\n    ".join(lets) + "\n    " + body.strip()
         body = body if body.startswith(("\n", " ")) and "\n" in body else " " + body.strip()
