@@ -1,7 +1,6 @@
 -- The part of the table that is lent lies in it.
 use native.Mathlib.Omega.{arith}
 use lib.ListN.{length-take}
-use borrow.Author.Rules.{rules}
 use Rattle.replay_calls.proofs.answer.Goals as goal
 
 pub slice_bounds-answer-end-3 : goal.slice_bounds-answer-end-3
