@@ -1,12 +1,10 @@
 -- The lent parts keep their lengths; the turns left fall.
 use mathlib.Core.Path.{◌≡◌}
-use native.Mathlib.Omega.{arith}
 use lib.ListN.{length}
-use borrow.Author.Rules.{rules}
 use Rattle.replaying.proofs.run.Given as goal
 
 abbrev pub invariant-loop-turns : goal.invariant-loop-turns
-invariant-loop-turns l =
+invariant-loop-turns g l =
     (length l.room ≡ length l.initial.room)
     × (length l.table ≡ length l.initial.table)
     × (length l.bytes ≡ length l.initial.bytes)
@@ -14,4 +12,4 @@ invariant-loop-turns l =
     × (length l.out ≡ length l.initial.out)
 
 abbrev pub decreases-loop-turns : goal.decreases-loop-turns
-decreases-loop-turns l = l.turns
+decreases-loop-turns g l = l.turns
