@@ -22,7 +22,7 @@ ALONE = re.compile(r"(?:search rules|omega arith|refl|tt)$")
 
 
 def norm(name):
-    return re.sub("_lem$", "", name.replace("-", "_").lower())
+    return re.sub("_lem$", "", name.strip("«»").replace("-", "_").lower())
 
 
 def components(text):
@@ -167,6 +167,14 @@ class Function:
         fields = self.fields.get(new)
         if fields and len(rest) > 1 and rest[0] == "ensures" and rest[1].isdigit() and int(rest[1]) < len(fields):
             rest = ["ensures", fields[int(rest[1])]] + rest[2:]
+        # what a call left of a parameter, by its name
+        if len(rest) > 1 and rest[0] in ("auto", "new") and rest[1] in "01":
+            callee = next((q[3] for q in self.place.values() if q[2][1] == new and q[3]), None)
+            params, n = self.json["params"].get(callee, []), 0
+            while 1 + n < len(rest) and rest[1 + n] == "1":
+                n += 1
+            if 1 + n < len(rest) and rest[1 + n] == "0" and n < len(params):
+                rest = [rest[0], params[n]] + rest[2 + n:]
         return ".".join(["c", new] + rest)
 
     def turn(self, body, place, bound="c"):
@@ -201,7 +209,7 @@ class Function:
             new = self.chain(at, n, parts)
             return new
 
-        body = re.sub(r"(?<![\w'.₀-₉-])(" + ID + r")((?:\.[\w'-]+)*)", path, body)
+        body = re.sub(r"(?<![\w'.₀-₉-])(" + ID + r")((?:\.(?:[\w'-]+|«[\w-]+»))*)", path, body)
         # let a = c.args in
         for m in list(re.finditer(r"\blet (" + ID + r") = (c(?:\.[\w'?-]+)+) in\s*", body)):
             simple[m.group(1)] = m.group(2)
