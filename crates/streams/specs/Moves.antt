@@ -1,7 +1,8 @@
 -- What a call of `read` or `write` did, by the count that it gave and the errno that it left. This is all that a program decides
 -- by: a failure is never the end, a signal is neither, and a part is not the whole.
 use Rattle.std.specs.Prelude.{ℕ, suc, zero, ◌-◌, ◌≤◌, ◌<◌, min, Bool, false, cond, List, [], ◌∷◌, eqb, ltb, ℤ, pos, negsuc, length}
-use Rattle.std.specs.Prelude.{Option, Some, None, Result, Ok, Err}
+use Rattle.std.specs.Prelude.{Option, Some, None, Result, Ok, Err, ◌≡◌, true, take}
+use Rattle.std.specs.Io.KnownBytes.{Appends, Consumes, IsAtEnd, Keeps}
 use Rattle.std.specs.IoError.{error_kind, raw_os_error}
 use Rattle.std.specs.declared.io.Error.{Error}
 use Rattle.std.specs.declared.io.ErrorKind.{ErrorKind}
@@ -56,5 +57,18 @@ errno_of e = errno_by (raw_os_error e) (error_kind e)
 
 -- a count comes with no errno, and an error with the count -1
 abbrev pub moved_in : Result ℕ Error → ℕ → Moved
-moved_in (Ok n) most = moved_of (pos (min n 9223372036854775807)) (pos 0) most
+moved_in (Ok n) most = moved_of (pos n) (pos 0) most
 moved_in (Err e) most = moved_of (negsuc 0) (errno_of e) most
+
+-- # The bytes that a reader has left and that a writer holds, where those are known
+
+-- a read takes the bytes that it moved, and nothing moves but at the end; a signal and a failure take none
+abbrev pub Takes : Option (List ℕ) → Option (List ℕ) → Moved → List ℕ → Type 0
+Takes old new (Bytes n) buffer = Consumes old new (take n buffer)
+Takes old new Nothing buffer = Keeps old new × (0 < length buffer → IsAtEnd new)
+Takes old new Interrupted buffer = Keeps old new
+Takes old new (Failed e) buffer = Keeps old new
+
+-- what is written of a text is a front of it, and all of it where that is told
+abbrev pub WritesFront : Option (List ℕ) → Option (List ℕ) → List ℕ → Bool → Type 0
+WritesFront old new text whole = (n : ℕ) × Appends old new (take n text) × (whole ≡ true → length text ≤ n)

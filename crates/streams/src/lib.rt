@@ -1,9 +1,9 @@
 // The programs' standard input and output. What a call of read or write did is a function of the count that it gave.
 #![tactic(auto)]
 
-ghost use Rattle.std.specs.Prelude.{◌≡◌, ◌≤◌, length};
+ghost use Rattle.std.specs.Prelude.{◌≡◌, ◌≤◌, ◌<◌, IfOk, length};
 ghost use Rattle.output.specs.Output.{collected, collected_in};
-ghost use Rattle.streams.specs.Moves.{MovedWithin, errno_of, failed_read, left_of, moved_in, moved_of, unmoved_by};
+ghost use Rattle.streams.specs.Moves.{MovedWithin, Takes, WritesFront, errno_of, failed_read, left_of, moved_in, moved_of, unmoved_by};
 
 use output::Pending;
 use std::io::{Cursor, Error, ErrorKind, Read, Result, Write};
@@ -40,7 +40,8 @@ pub enum Left {
 
 // Reads once. Nothing moves at the end of the input, or into an empty buffer.
 pub fn read<I: Read>(from: &mut I, buffer: &mut [u8]) -> Moved
-    ensures { MovedWithin result buffer.new }
+    ensures within { MovedWithin result buffer.new }
+    ensures bytes { Takes (I.remaining from.old) (I.remaining from.new) result buffer.new }
 {
     let got = from.read(buffer);
     moved_in(got, buffer.len())
@@ -48,10 +49,12 @@ pub fn read<I: Read>(from: &mut I, buffer: &mut [u8]) -> Moved
 
 // What a call did, by what std gives of it: a count and no errno, or an errno and the count that the system has for it.
 fn moved_in(got: Result<usize>, most: usize) -> Moved
+    requires within { IfOk got (λ n. n ≤ most) }
+    requires small { most < 9223372036854775808 }
     ensures { result ≡ moved_in got most }
 {
     match got {
-        Ok(n) => moved_by(numbers::least(n, isize::MAX as usize) as isize, 0, most),
+        Ok(n) => moved_by(n as isize, 0, most),
         Err(e) => moved_by(-1, errno_of(e), most),
     }
 }
@@ -93,7 +96,9 @@ fn unmoved(error: i32) -> Moved
 
 // Writes a text, going on after a signal and where only a part was written; whether all of it is written.
 // Turns are a bound for the proof: nothing lasts so long.
-pub fn write<O: Write, E: Write>(to: &mut O, errors: &mut E, text: &[u8]) -> bool {
+pub fn write<O: Write, E: Write>(to: &mut O, errors: &mut E, text: &[u8]) -> bool
+    ensures { WritesFront (O.contents to.old) (O.contents to.new) text.now result }
+{
     let mut from = 0;
     let mut turns = u64::MAX;
     while 0 < turns {
