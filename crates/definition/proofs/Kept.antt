@@ -27,7 +27,7 @@ pub state_append : (c : Settings) (answers : ℕ → Bool) (s : State) (xs ys : 
     → state c answers s (xs ++ ys) ≡ state c answers (state c answers s xs) ys
 unfolding state
 state_append c answers s [] ys = refl
-state_append c answers s (x ∷ xs) ys = state_append c answers _ xs ys
+state_append c answers s (x ∷ xs) ys = state_append c answers (step_state s.going c s (length x) (answers (s.lines + 1))) xs ys
 
 pub rows_append : RowsBegin
 unfolding rows state

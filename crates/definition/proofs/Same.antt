@@ -146,10 +146,10 @@ module _ (c : Settings) (g : Gone) (s : State) (a : Agree c g s) (len : ℕ) whe
   lines_next : length (g.seen ++ (next_line s len ∷ [])) ≡ s.lines + 1
   lines_next = omega (arith, length-append g.seen (next_line s len ∷ []), a.lines_is)
 
-  going_next : (f : Fate)
+  going_next_lem : (f : Fate)
       → going_next c (not (is_match f)) (matches_next f g.matches) (after_left_next f c g.after_left)
       ≡ going_next c (not (is_match f)) (matches_next f s.matches) (after_left_next f c s.after_left)
-  going_next f =
+  going_next_lem f =
       ap₂ (λ m left. going_next c (not (is_match f)) (matches_next f m) (after_left_next f c left)) a.matches_is a.left_is
 
   -- a line that gets a row: the lines up to it are all done
@@ -175,7 +175,7 @@ module _ (c : Settings) (g : Gone) (s : State) (a : Agree c g s) (len : ℕ) whe
         lines_is = lines_next;
         matches_is = ap (matches_next f) a.matches_is;
         left_is = ap (after_left_next f c) a.left_is;
-        going_is = going_next f;
+        going_is = going_next_lem f;
       }
 
   -- why a line that gets no match gets what it gets
@@ -282,7 +282,7 @@ module _ (c : Settings) (g : Gone) (s : State) (a : Agree c g s) (len : ℕ) whe
           lines_is = lines_next;
           matches_is = a.matches_is;
           left_is = a.left_is;
-          going_is = going_next NoRow;
+          going_is = going_next_lem NoRow;
         },
       )
 

@@ -21,7 +21,7 @@ use Rattle.promises.specs.Run.{Run, at_start, here}
 use Rattle.promises.proofs.Carry.{weight}
 use Rattle.promises.proofs.History.{inv_run, run_settings}
 use Rattle.session.proofs.Keeps.{served_fresh}
-use Rattle.machine.specs.Machine.{Read, run}
+use Rattle.machine.specs.Machine.{run}
 use Rattle.machine.specs.Program.{Program, begins, driver, turns}
 use Rattle.machine.specs.Promises.{CauseTold, Cut, Ended as EndedText, Gone, OneText, Printed, Prints, Rows, bytes_of as readBytes, cut_off, ending_of, finished, no_room, said, said_from, too_large}
 use Rattle.machine.proofs.Closings.{Now}

@@ -1,6 +1,6 @@
 -- What a turn does at a moment of a run: it goes on and what is left gets lighter, or it prints what must be printed and is over, or it
 -- wants a read, and then nothing is at hand.
-use Rattle.std.proofs.Common.{◌≡◌, ℕ, ◌+◌, ◌*◌, ◌<◌, ◌≤◌, Bool, true, false, ◌⊎◌, List, [], ◌∷◌, ◌++◌, length, take, drop, sym, refl, ap, ◌∙◌, subst, ⊎_elim, append-nil, arith}
+use Rattle.std.proofs.Common.{◌≡◌, ℕ, ◌+◌, ◌*◌, ◌<◌, ◌≤◌, Bool, true, false, List, [], ◌∷◌, ◌++◌, length, take, drop, sym, refl, ap, ◌∙◌, subst, ⊎_elim, append-nil, arith}
 use lib.Seq.{drop-append-le, take-append_seam}
 use Rattle.definition.specs.declared.Going.TheVariants.{On}
 use Rattle.definition.specs.declared.Row.{Row}

@@ -1,5 +1,5 @@
 -- The promises of specs/Caller.antt.
-use Rattle.std.proofs.Common.{◌≡◌, ℕ, zero, ◌+◌, ◌-◌, ◌*◌, ◌<◌, ◌≤◌, Bool, true, false, cond, not, ◌&&◌, ◌||◌, ltb, leb, ◌⊎◌, ◌↔◌, List, [], ◌∷◌, ◌++◌, map, length, take, drop, sym, refl, ap, ◌∙◌, inl, inr, ⊎_elim, true≢false, arith, length-append, length-drop, length-take, drop_at, ltb-true, le-ltb, lt-ltb, ne_eqb, le-leb, leb-true}
+use Rattle.std.proofs.Common.{◌≡◌, ℕ, ◌+◌, ◌-◌, ◌*◌, ◌<◌, ◌≤◌, Bool, true, false, cond, not, ◌&&◌, ◌||◌, ltb, leb, ◌⊎◌, ◌↔◌, List, [], ◌∷◌, ◌++◌, map, length, take, drop, sym, refl, ap, ◌∙◌, inl, inr, ⊎_elim, true≢false, arith, length-append, length-drop, length-take, drop_at, ltb-true, le-ltb, lt-ltb, ne_eqb, le-leb, leb-true}
 use mathlib.Core.Bool.{and-eq-true_iff, and-false, or-true}
 use mathlib.Core.List.{flatten}
 use native.Mathlib.Decide.{dec_le, dec_lt}
@@ -18,7 +18,6 @@ use Rattle.driver_core.specs.Walk.{is_on, shown_ahead, waits_ahead}
 use Rattle.session.specs.declared.Input.{Input}
 use Rattle.session.specs.declared.Input.TheVariants.{Open, Ended, QuitFound}
 use Rattle.session.specs.declared.Session.{Session}
-use Rattle.session.specs.declared.Waiting.{Waiting}
 use Rattle.session.specs.declared.Waiting.TheVariants.{LineWaits, NoneWaits, WaitingRefused}
 use Rattle.session.specs.Calls.{Idle, OfferDecision, OfferRefused, Take, answer_answer, answer_rows, answer_session, answer_table, answered, answered_table, answering, before_quit, below_one, idle, input_told, offer_answer, offer_window, offered, offered_window, offering, opened, opening, places_next, quit_front, recorded, recording, remains, shown_line, stored, taking, told, told_session, waiting, waiting_refusal, with_input}
 use Rattle.promises.specs.Caller.{Agreeing, Answers, Balance, NothingTwice, OfferServed, Offers, Others, Progress, Reached, RefusalsChangeNothing, RowsStay, WhenAndOnlyThen, WindowStays, answers, lone_bytes, offers, opens, tells, unfinished_bytes, unfinished_in, waiting_bytes, waiting_in, whole_bytes}

@@ -30,7 +30,6 @@ use Rattle.promises.specs.Promises.{kept_before}
 use Rattle.promises.specs.Run.{At, Run, Steps, here, offer, answer, ask, refused, tell, at_start}
 use Rattle.session.specs.Sound.{agrees, sound}
 use Rattle.session.proofs.Agree.{agrees_of}
-use Rattle.session.proofs.Cases.{few}
 use Rattle.promises.proofs.Giving.{inv-given, text_none}
 use Rattle.promises.proofs.Invariant.{Inv, InputNow, sound-now}
 use Rattle.session.proofs.Keeps.{TakenIf, offer_taken, agree_fresh, agree_told_session, served_fresh}

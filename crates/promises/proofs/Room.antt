@@ -6,14 +6,14 @@ use Rattle.definition.specs.declared.Row.{Row}
 use Rattle.definition.specs.declared.Going.TheVariants.{On}
 use Rattle.definition.specs.declared.Settings.{Settings}
 use Rattle.definition.specs.Definition.{gone_lines}
-use Rattle.definition.specs.State.{State, begun, rows, state}
+use Rattle.definition.specs.State.{State, begun, state}
 use Rattle.definition.specs.Text.{first_length, first_place, lines, text}
 use Rattle.definition.proofs.Kept.{state_append, state_stopped}
 use Rattle.definition.proofs.Same.{same_lines}
 use Rattle.definition.proofs.Terminator.{first_append_none, lines_head}
 use Rattle.driver_core.specs.Walk.{is_on, waits_ahead}
 use Rattle.session.specs.declared.Session.{Session}
-use Rattle.session.specs.Calls.{idle, offered}
+use Rattle.session.specs.Calls.{offered}
 use Rattle.session.specs.Held.{held_bytes, is_open, kept_bytes, unanswered, waits}
 use Rattle.promises.specs.Promises.{Fitted, TooLong, kept_before}
 use Rattle.promises.proofs.Carry.{more-text, not_idle, or_false}

@@ -1,0 +1,14 @@
+-- Going back, no terminator was met but perhaps at the very end: the last line starts after the first one met.
+use Prim.Native.Nat.{◌+◌, ◌-◌, ◌≤◌}
+use mathlib.Core.Path.{◌≡◌, sym}
+use native.Mathlib.Omega.{arith}
+use lib.ListN.{length, drop}
+use Rattle.definition.specs.Text.{first_place}
+use Rattle.lines.proofs.Laws.{ended_before, first_later, last_here, last_whole}
+use Rattle.lines.proofs.last_line.Given as goal
+
+abbrev pub invariant-loop-i : goal.invariant-loop-i
+invariant-loop-i l = (l.i ≤ length l.s) × (length l.s ≤ l.i - 1 + first_place l.terminator (drop (l.i - 1) l.s) + 1)
+
+abbrev pub decreases-loop-i : goal.decreases-loop-i
+decreases-loop-i l = l.i
