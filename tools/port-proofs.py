@@ -22,7 +22,7 @@ ALONE = re.compile(r"(?:search rules|omega arith|refl|tt)$")
 
 
 def norm(name):
-    return name.replace("-", "_").lower()
+    return re.sub("_lem$", "", name.replace("-", "_").lower())
 
 
 def components(text):
@@ -112,6 +112,7 @@ class Function:
     def __init__(self, crate, path, generated):
         self.crate, self.path, self.json = crate, path, generated
         self.place = {p[0]: p for p in generated["places"]}
+        self.fields = {p[2][1]: c["fields"] for p, c in zip(generated["places"], generated["clauses"]) if c}
         self.arm = {p[0]: a for p, a in zip(generated["places"], generated["arms"])}
         self.notes = []
 
@@ -162,6 +163,10 @@ class Function:
             self.notes.append(f"no step {first} at {place}")
             return ".".join(["c", "?" + first] + rest[1:])
         rest = rest[1:]
+        # a clause by its name
+        fields = self.fields.get(new)
+        if fields and len(rest) > 1 and rest[0] == "ensures" and rest[1].isdigit() and int(rest[1]) < len(fields):
+            rest = ["ensures", fields[int(rest[1])]] + rest[2:]
         return ".".join(["c", new] + rest)
 
     def turn(self, body, place, bound="c"):
@@ -305,6 +310,8 @@ class Function:
         body = self.turn(body, place, params[0] if params else "c")
 
         def helper(h, at):
+            # the place that its type names, since places came and went between here and there
+            at = next((p for p in self.place if norm(p) == norm(helpers[h]["place"])), at)
             k = (h, at)
             if k not in seen:
                 name = h if not any(x[0] == h for x in seen) else f"{h}-{sum(x[0] == h for x in seen) + 1}"
@@ -328,6 +335,9 @@ class Function:
 
         body = re.sub(r"(" + ID + r") \0([^\0]*)\0", apply, body)
         body = body.replace("\0", "")
+        # a test of `!b` is told of b
+        body = re.sub(r"not-(?:true|false) _ (c\.if-not-[\w-]+\.(?:true|false))", r"\1", body)
+        body = re.sub(r"\((\w+)\)(?=[ ),.]|$)", r"\1", body)
         return params[1:], body
 
     def answer(self, d, j, helpers, out):

@@ -33,9 +33,9 @@ module _ (k : Walk) (since : List ℕ) (len : ℕ) (hit : Bool) where
   unfolding answering_since fated_decision below_one_since rows_since fated_rows
   decision-is table = refl
 
-  given_by : (o : AnswerDecision) → given_by o k since len hit ≡ fated_given_by o fateHere k since len
-  given_by (AnswerRefused n) = refl
-  given_by Give = rw rows_are
+  given_by_lem : (o : AnswerDecision) → given_by o k since len hit ≡ fated_given_by o fateHere k since len
+  given_by_lem (AnswerRefused n) = refl
+  given_by_lem Give = rw rows_are
 
   table-by : (o : AnswerDecision) (table : List ℕ) → given_table_by o k since len table hit ≡ fated_table_by o fateHere k since len table
   table-by (AnswerRefused n) table = refl
@@ -46,7 +46,7 @@ module _ (k : Walk) (since : List ℕ) (len : ℕ) (hit : Bool) where
       → (fated_given f k since len (length table) ≡ given k since len table hit) × (fated_table f k since len table ≡ given_table k since len table hit)
   unfolding given given_table fated_given fated_table
   given-as f table h = (
-    sym (given_by (answering_since k since len (length table) hit) ∙ ap (λ o. fated_given_by o fateHere k since len) (decision-is (length table))
+    sym (given_by_lem (answering_since k since len (length table) hit) ∙ ap (λ o. fated_given_by o fateHere k since len) (decision-is (length table))
         ∙ ap (λ g. fated_given g k since len (length table)) h),
     sym (table-by (answering_since k since len (length table) hit) table ∙ ap (λ o. fated_table_by o fateHere k since len table) (decision-is (length table))
         ∙ ap (λ g. fated_table g k since len table) h),

@@ -82,7 +82,7 @@ pub fn second(
     match look(&input[from..to]) {
         Seen::Whole(length) => {
             let end = from + length;
-            bytes::copy(&input[from..end], literal);
+            literal[..length].copy_from_slice(&input[from..end]);
             standing::begun(s, length, rare_bytes::choose(&literal[..length]), end + 1)
         }
         Seen::Unfinished => standing::wanting(s, input),

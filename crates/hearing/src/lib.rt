@@ -9,10 +9,17 @@ ghost use Rattle.printing.specs.Texts.{line_most};
 
 use machine::Next;
 use search_machine::{Search, Stage};
+use std::io::Write;
 use streams::Moved;
 
 // What a read gave: bytes behind those that were left, the end, or a failure, which is never the end.
-pub fn heard(s: Search, got: Moved, input: &[u8], out: &mut [u8]) -> Search
+pub fn heard<E: Write>(
+    errors: &mut E,
+    s: Search,
+    got: Moved,
+    input: &[u8],
+    out: &mut [u8],
+) -> Search
     requires { Hearing s got input.now out.old }
     ensures { (window literal : List ℕ) → Heard s got window literal input.now result out.new }
 {
@@ -22,7 +29,7 @@ pub fn heard(s: Search, got: Moved, input: &[u8], out: &mut [u8]) -> Search
         Moved::Interrupted => s,
         Moved::Failed(reason) => standing::over(
             s,
-            streams::tell_failed_read(out, s.pending, reason),
+            streams::tell_failed_read(errors, out, s.pending, reason),
         ),
     }
 }

@@ -8,6 +8,7 @@ use native.Mathlib.Omega.{arith}
 use lib.Dec.{eqb}
 use lib.ListN.{length, take, drop, get_or, set, drop_of_length-le, length-append, length-drop, take-append-drop}
 use lib.Seq.{append_snoc, drop-append-add, drop-cons, drop-drop, get_or-append-add, get_or-drop, length-take-le, set_at, take_all, take_at, take-suc}
+use borrow.Rule.Slice.PartMut.{put_mid}
 use Rattle.definition.specs.Text.{part, put_at, replaced}
 use Rattle.line_buffer.specs.Buffer.{rolled}
 
@@ -66,6 +67,13 @@ tail_put end n bytes w e h =
     let size = length-drop end w in
     rw (e, take_all (length w - end) (drop end w) (omega arith), drop_of_length-le (drop end w) {i = length w - end} (omega arith))
     (ap (λ xs. take end w ++ xs) (append-nil (bytes ++ drop n (drop end w)) ∙ ap (λ xs. bytes ++ xs) (drop-drop n end w)))
+
+-- a piece written over as many places as it has bytes
+pub part_put : (at : ℕ) (bytes w : List ℕ) → put_mid at (at + length bytes - at) w bytes ≡ put_at at bytes w
+unfolding put_at
+part_put at bytes w =
+    let size : at + length bytes - at ≡ length bytes = omega arith in
+    rw size (ap (λ xs. take at w ++ (bytes ++ xs)) (drop-drop (length bytes) at w))
 
 -- Rolled, then taken in behind the held part: the window as a list.
 pub roll_take_in : (from to : ℕ) (bytes w : List ℕ) → from ≤ to → to ≤ length w

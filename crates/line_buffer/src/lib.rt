@@ -31,10 +31,10 @@ pub fn take_in(window: &mut [u8], end: usize, piece: &[u8], binary: Binary, term
     // Copying is apart from the converting loop, since it has nothing to test: it moves 32 bytes a turn.
     match binary {
         Binary::Ignore => {
-            bytes::copy(piece, &mut window[end..]);
+            window[end..end + piece.len()].copy_from_slice(piece);
         }
         Binary::Quit(_) => {
-            bytes::copy(piece, &mut window[end..]);
+            window[end..end + piece.len()].copy_from_slice(piece);
         }
         Binary::Convert(byte) => replace_bytes(&mut window[end..], piece, byte, terminator),
     }

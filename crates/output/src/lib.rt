@@ -6,7 +6,7 @@ ghost use Rattle.definition.specs.Text.{put_at};
 ghost use Rattle.output.specs.Output.{added, collected, collected_in, decimal, none};
 
 // What is collected: so many bytes at the buffer's front, and whether some text had no room there.
-#[derive(Drop)]
+#[derive(Clone, Copy)]
 pub struct Pending {
     pub length: usize,
     pub lost: bool,
@@ -50,7 +50,7 @@ pub fn stored(out: &mut [u8], pending: Pending, text: &[u8]) -> Pending
     ensures { (result ≡ added pending text.now) × (out.new ≡ put_at pending.length text.now out.old) }
 {
     let at = pending.length;
-    bytes::copy(text, &mut out[at..]);
+    out[at..at + text.len()].copy_from_slice(text);
     Pending {
         length: at + text.len(),
         lost: pending.lost,

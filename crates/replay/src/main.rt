@@ -2,6 +2,13 @@
 // sample runs the same.
 #![tactic(auto)]
 
-fn main() {
-    replaying::play();
+use streams::Streams;
+
+fn main(rt: HostRuntime) {
+    let mut standard = Streams {
+        input: rt.stdin(),
+        output: rt.stdout(),
+        errors: rt.stderr(),
+    };
+    replaying::play(&mut standard);
 }

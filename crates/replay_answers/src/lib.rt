@@ -69,7 +69,7 @@ fn poke(
 ) -> Said {
     let at = replay_says::within(place, room);
     let size = numbers::least(replay_says::within(count, bytes), room.len() - at);
-    bytes::copy(&bytes[..size], &mut room[at..]);
+    room[at..at + size].copy_from_slice(&bytes[..size]);
     replay_says::more_said(output::put(out, pending, b"poke\n"))
 }
 

@@ -8,7 +8,8 @@ ghost use Rattle.replay_input.specs.Input.{EndsBefore, is_end};
 use lines::Found;
 use output::Pending;
 use replay_says::Said;
-use streams::Moved;
+use std::io::{Read, Write};
+use streams::{Moved, Streams};
 
 // The line that was found lies from `start` to `end`, what is not yet gone through from `from` to `to`.
 #[derive(Clone, Copy)]
@@ -40,20 +41,24 @@ pub fn nothing_read() -> Reading {
 // Finds the next line, behind which an answer of the most bytes has room; where the script is over all is written. A line
 // is bad before its end has come where it is longer than the longest. Turns are a bound for the proof: nothing lasts so
 // long.
-pub fn next_line(
+pub fn next_line<I: Read, O: Write, E: Write>(
+    standard: &mut Streams<I, O, E>,
     reading: Reading,
     input: &mut [u8],
     out: &mut [u8],
     most: usize,
     longest: usize,
 ) -> Reading {
-    let mut now = with_said(reading, replay_says::with_room(reading.said, out, most));
+    let mut now = with_said(
+        reading,
+        replay_says::with_room(standard, reading.said, out, most),
+    );
     let mut turns = u64::MAX;
     while 0 < turns {
         turns -= 1;
         let said = now.said;
         if said.over {
-            return with_said(now, replay_says::flushed(said, out));
+            return with_said(now, replay_says::flushed(standard, said, out));
         }
         let to = replay_says::within(now.to, input);
         let from = numbers::least(now.from, to);
@@ -67,7 +72,7 @@ pub fn next_line(
                     ..now
                 };
             }
-            Found::Nothing => now = filled(now, input, out, longest),
+            Found::Nothing => now = filled(standard, now, input, out, longest),
         }
     }
     now
@@ -94,22 +99,28 @@ pub fn answered(reading: Reading, said: Said, out: &mut [u8]) -> Reading {
 }
 
 // Writes what is collected, moves what is not yet gone through to the input's front and reads once behind it.
-fn filled(reading: Reading, input: &mut [u8], out: &mut [u8], longest: usize) -> Reading {
+fn filled<I: Read, O: Write, E: Write>(
+    standard: &mut Streams<I, O, E>,
+    reading: Reading,
+    input: &mut [u8],
+    out: &mut [u8],
+    longest: usize,
+) -> Reading {
     let to = replay_says::within(reading.to, input);
     let from = numbers::least(reading.from, to);
     let rest = to - from;
     let bounded = bounded(reading.said, rest, reading.lines, out, longest);
-    let said = replay_says::flushed(bounded, out);
+    let said = replay_says::flushed(standard, bounded, out);
     if said.over | reading.ended {
         return with_said(reading, replay_says::last_said(said.pending));
     }
     line_buffer::roll(input, from, to);
-    let moved = streams::read(&mut input[rest..]);
+    let moved = streams::read(&mut standard.input, &mut input[rest..]);
     Reading {
         from: 0,
         to: reached(moved, rest, input),
         ended: is_end(moved),
-        said: told(said, moved, out),
+        said: told(&mut standard.errors, said, moved, out),
         ..reading
     }
 }
@@ -161,17 +172,17 @@ fn is_end(moved: Moved) -> bool
 }
 
 // Where a signal came first, the next turn reads again.
-fn told(said: Said, moved: Moved, out: &mut [u8]) -> Said {
+fn told<E: Write>(errors: &mut E, said: Said, moved: Moved, out: &mut [u8]) -> Said {
     match moved {
         Moved::Bytes(_) => said,
         Moved::Nothing => said,
         Moved::Interrupted => said,
-        Moved::Failed(reason) => failed(said.pending, reason, out),
+        Moved::Failed(reason) => failed(errors, said.pending, reason, out),
     }
 }
 
-fn failed(pending: Pending, reason: i32, out: &mut [u8]) -> Said {
-    replay_says::last_said(streams::tell_failed_read(out, pending, reason))
+fn failed<E: Write>(errors: &mut E, pending: Pending, reason: i32, out: &mut [u8]) -> Said {
+    replay_says::last_said(streams::tell_failed_read(errors, out, pending, reason))
 }
 
 fn with_said(reading: Reading, said: Said) -> Reading {

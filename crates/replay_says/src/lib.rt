@@ -8,6 +8,8 @@ ghost use Rattle.output.specs.Output.{collected, collected_in, decimal};
 ghost use Rattle.io.specs.Counts.{IsPrefixLen};
 
 use output::Pending;
+use std::io::Write;
+use streams::Streams;
 
 // What is collected, and whether the script is over: by a bad line, its end or a failure.
 #[derive(Clone, Copy)]
@@ -41,19 +43,28 @@ pub fn last_said(pending: Pending) -> Said
 }
 
 // Writes what is collected where an answer of the most bytes might have no room behind it.
-pub fn with_room(said: Said, out: &[u8], most: usize) -> Said {
+pub fn with_room<I, O: Write, E: Write>(
+    standard: &mut Streams<I, O, E>,
+    said: Said,
+    out: &[u8],
+    most: usize,
+) -> Said {
     let pending = said.pending;
     if most <= out.len() - within(pending.length, out) {
         return said;
     }
-    flushed(said, out)
+    flushed(standard, said, out)
 }
 
 // Writes what is collected. Where that fails, or a text was lost, the script is over, so that the output has no hole.
-pub fn flushed(said: Said, out: &[u8]) -> Said {
+pub fn flushed<I, O: Write, E: Write>(
+    standard: &mut Streams<I, O, E>,
+    said: Said,
+    out: &[u8],
+) -> Said {
     let pending = said.pending;
     let length = within(pending.length, out);
-    let written = streams::write(&out[..length]);
+    let written = streams::write(&mut standard.output, &mut standard.errors, &out[..length]);
     Said {
         pending: output::nothing_pending(),
         over: said.over | pending.lost | !written,

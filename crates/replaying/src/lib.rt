@@ -8,6 +8,8 @@
 mod command;
 
 use replay_words::{ROOM, TABLE};
+use std::io::{Read, Write};
+use streams::Streams;
 
 // The longest piece that a command writes.
 const PIECE: usize = 4_096;
@@ -19,23 +21,32 @@ const LONGEST: usize = 2 * PIECE + 18;
 // still fits behind it.
 const LONGEST_ANSWER: usize = 2 * ROOM + 126;
 
-pub fn play() {
+pub fn play<I: Read, O: Write, E: Write>(standard: &mut Streams<I, O, E>) {
     let mut room = [0u8; ROOM];
     let mut table = [9u64; TABLE];
     let mut bytes = [0u8; PIECE];
     let mut input = [0u8; 65_536];
     let mut out = [0u8; 262_144];
-    run(&mut room, &mut table, &mut bytes, &mut input, &mut out);
+    run(
+        standard, &mut room, &mut table, &mut bytes, &mut input, &mut out,
+    );
 }
 
 // Turns are a bound for the proof: nothing lasts so long.
-fn run(room: &mut [u8], table: &mut [u64], bytes: &mut [u8], input: &mut [u8], out: &mut [u8]) {
+fn run<I: Read, O: Write, E: Write>(
+    standard: &mut Streams<I, O, E>,
+    room: &mut [u8],
+    table: &mut [u64],
+    bytes: &mut [u8],
+    input: &mut [u8],
+    out: &mut [u8],
+) {
     let mut script = replay_calls::start();
     let mut reading = replay_input::nothing_read();
     let mut turns = u64::MAX;
     while 0 < turns {
         turns -= 1;
-        reading = replay_input::next_line(reading, input, out, LONGEST_ANSWER, LONGEST);
+        reading = replay_input::next_line(standard, reading, input, out, LONGEST_ANSWER, LONGEST);
         let said = reading.said;
         if said.over {
             return;

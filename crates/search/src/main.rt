@@ -2,6 +2,13 @@
 // end record. All of it is the library `searching`, so that the programs of the fixed cases run the same.
 #![tactic(auto)]
 
-fn main() {
-    searching::run();
+use streams::Streams;
+
+fn main(rt: HostRuntime) {
+    let mut standard = Streams {
+        input: rt.stdin(),
+        output: rt.stdout(),
+        errors: rt.stderr(),
+    };
+    searching::run(&mut standard);
 }

@@ -8,7 +8,7 @@ use Rattle.forms.specs.declared.Asked.TheVariants.{For, OtherForm}
 use Rattle.forms.specs.First.{asked_of}
 use Rattle.machine.specs.Machine.{Read, Turn, ended, ends, failed, goes, run, some, wants}
 use Rattle.machine.specs.Program.{Standing, begins, driver, hears, turns}
-use Rattle.machine.specs.Promises.{Ending, Prints, bytes_of, ending_of, whole}
+use Rattle.machine.specs.Promises.{Ending, Prints, bytes_of, ending_of}
 use Rattle.machine.proofs.Promises.{one_text, printed}
 use Rattle.machine.proofs.Runs.{run_ends, run-goes, run-hears, run-waits}
 use Rattle.session.specs.Calls.{opened}

@@ -6,7 +6,6 @@ use Rattle.streams.specs.declared.Moved.{Moved}
 use Rattle.streams.specs.declared.Moved.TheVariants.{Bytes, Nothing, Interrupted, Failed}
 use Rattle.search_machine.specs.declared.Phase.{Phase}
 use Rattle.search_machine.specs.declared.Phase.TheVariants.{Going, Wants, Over}
-use Rattle.search_machine.specs.declared.Search.{Search}
 use Rattle.machine.specs.Promises.{bytes_of, ending_of}
 use Rattle.search_machine.specs.Promises.{SearchPrints, heading_of, search_enough}
 use Rattle.search_machine.specs.Search.{State, hears_of, search, starts, turn_of}

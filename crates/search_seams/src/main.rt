@@ -1,6 +1,13 @@
 // Lines across the places where one read ends and the next begins, and one that ends there.
 #![tactic(auto)]
 
-fn main() {
-    searching::run();
+use streams::Streams;
+
+fn main(rt: HostRuntime) {
+    let mut standard = Streams {
+        input: rt.stdin(),
+        output: rt.stdout(),
+        errors: rt.stderr(),
+    };
+    searching::run(&mut standard);
 }

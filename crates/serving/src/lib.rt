@@ -5,9 +5,12 @@
 ghost use Rattle.search_machine.specs.Standing.{Collects, Lent, Ready, Rests, Stepped, Turned, seen, written_out};
 
 use search_machine::{Phase, Search, Stage};
+use std::io::{Read, Write};
+use streams::Streams;
 
 // Makes a step and writes what is then pending, until all is told. Turns are a bound for the proof: nothing lasts so long.
-pub fn serve(
+pub fn serve<I: Read, O: Write, E: Write>(
+    standard: &mut Streams<I, O, E>,
     window: &mut [u8],
     table: &mut [u64],
     literal: &mut [u8],
@@ -20,10 +23,10 @@ pub fn serve(
     let mut turns = u64::MAX;
     while 0 < turns {
         turns -= 1;
-        let stepped = step(s, window, table, literal, input, out);
+        let stepped = step(standard, s, window, table, literal, input, out);
         let pending = stepped.pending;
         let length = pending.length;
-        if !streams::write(&out[..length]) {
+        if !streams::write(&mut standard.output, &mut standard.errors, &out[..length]) {
             return;
         }
         s = standing::written(stepped);
@@ -37,7 +40,8 @@ pub fn serve(
 }
 
 // Reads where a read is wanted; else makes turns.
-fn step(
+fn step<I: Read, O: Write, E: Write>(
+    standard: &mut Streams<I, O, E>,
     s: Search,
     window: &mut [u8],
     table: &mut [u64],
@@ -54,8 +58,8 @@ fn step(
         Phase::Going => go_on(s, window, table, literal, input, out),
         Phase::Wants => {
             let held = s.to;
-            let got = streams::read(&mut input[held..]);
-            hearing::heard(s, got, input, out)
+            let got = streams::read(&mut standard.input, &mut input[held..]);
+            hearing::heard(&mut standard.errors, s, got, input, out)
         }
         Phase::Over => s,
     }

@@ -1,6 +1,11 @@
 -- What a call of `read` or `write` did, by the count that it gave and the errno that it left. This is all that a program decides
 -- by: a failure is never the end, a signal is neither, and a part is not the whole.
 use Rattle.std.specs.Prelude.{ℕ, suc, zero, ◌-◌, ◌≤◌, ◌<◌, min, Bool, false, cond, List, [], ◌∷◌, eqb, ltb, ℤ, pos, negsuc, length}
+use Rattle.std.specs.Prelude.{Option, Some, None, Result, Ok, Err}
+use Rattle.std.specs.IoError.{error_kind, raw_os_error}
+use Rattle.std.specs.declared.io.Error.{Error}
+use Rattle.std.specs.declared.io.ErrorKind.{ErrorKind}
+use Rattle.std.specs.declared.io.ErrorKind.TheVariants as Kinds
 use Rattle.streams.specs.declared.Left.{Left}
 use Rattle.streams.specs.declared.Left.TheVariants.{Done, More, Stuck}
 use Rattle.streams.specs.declared.Moved.{Moved}
@@ -37,3 +42,19 @@ MovedWithin (Failed e) buffer = Unit
 -- `failed read` and a newline
 abbrev pub failed_read : List ℕ
 failed_read = 102 ∷ 97 ∷ 105 ∷ 108 ∷ 101 ∷ 100 ∷ 32 ∷ 114 ∷ 101 ∷ 97 ∷ 100 ∷ 10 ∷ []
+
+-- # What std gives of a call
+
+-- an error's errno: the system's, or that of its kind
+abbrev pub errno_by : Option ℤ → ErrorKind → ℤ
+errno_by (Some code) kind = code
+errno_by None Kinds.Interrupted = pos 4
+errno_by None kind = pos 5
+
+abbrev pub errno_of : Error → ℤ
+errno_of e = errno_by (raw_os_error e) (error_kind e)
+
+-- a count comes with no errno, and an error with the count -1
+abbrev pub moved_in : Result ℕ Error → ℕ → Moved
+moved_in (Ok n) most = moved_of (pos (min n 9223372036854775807)) (pos 0) most
+moved_in (Err e) most = moved_of (negsuc 0) (errno_of e) most

@@ -7,19 +7,20 @@ ghost use Rattle.std.specs.Prelude.{◌<◌};
 use definition::Settings;
 use machine::Next;
 use searcher::Searcher;
+use std::io::Write;
 
 // Room for three rows.
 const TABLE: usize = definition::ROW * 3;
 
-fn main() {
+fn main(rt: HostRuntime) {
     let plain = Settings::plain(b'\n');
     let settings = Settings { before: 1, ..plain };
     let opened = Searcher::open(settings, 6);
-    search(opened.searcher, b"a\nb\nc\nd\ne\n");
+    search(&mut rt.stdout(), opened.searcher, b"a\nb\nc\nd\ne\n");
 }
 
 // Answers every line that waits, and offers what is left of the text; twenty turns are more than enough.
-fn search(searcher: Searcher, text: &[u8]) {
+fn search<O: Write>(to: &mut O, searcher: Searcher, text: &[u8]) {
     let mut window = [0u8; 6];
     let mut table = [0u64; TABLE];
     let mut s = searcher;
@@ -31,7 +32,7 @@ fn search(searcher: Searcher, text: &[u8]) {
         let answered = s.answer(&window, &mut table, hit);
         if answered.refusal == 0 {
             s = answered.searcher;
-            print_rows(&table, answered.rows);
+            print_rows(to, &table, answered.rows);
         } else {
             let fed = driving::feed(s, answered.refusal, &mut window, &text[at..]);
             s = fed.searcher;
@@ -62,19 +63,19 @@ fn is_wanted(line: &[u8]) -> bool {
     }
 }
 
-fn print_rows(table: &[u64; TABLE], rows: usize) {
+fn print_rows<O: Write>(to: &mut O, table: &[u64; TABLE], rows: usize) {
     if 3 < rows {
         return;
     }
     let mut i = 0;
     while i < rows {
-        print_row(table, i);
+        print_row(to, table, i);
         i += 1;
     }
 }
 
 // The four numbers of a row; all of them are below 10 here.
-fn print_row(table: &[u64; TABLE], i: usize)
+fn print_row<O: Write>(to: &mut O, table: &[u64; TABLE], i: usize)
     requires { i < 3 }
 {
     let at = definition::ROW * i;
@@ -88,7 +89,7 @@ fn print_row(table: &[u64; TABLE], i: usize)
         digit(table[at + 3]),
         b'\n',
     ];
-    io::write_all(1, &text);
+    let _ = to.write_all(&text);
 }
 
 fn digit(n: u64) -> u8 {

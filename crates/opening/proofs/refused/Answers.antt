@@ -1,0 +1,6 @@
+-- The number, and the closed session.
+use borrow.Author.Rules.{rules}
+use Rattle.opening.proofs.refused.Goals as goal
+
+pub returns : goal.returns
+returns c = rw c.closed_session-s.ensures

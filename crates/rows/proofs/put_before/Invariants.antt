@@ -1,0 +1,16 @@
+-- The rows still to come, put into the table as it stands, are the rows wanted.
+use Prim.Native.Nat.{◌+◌, ◌-◌, ◌*◌, ◌≤◌, ◌<◌}
+use mathlib.Core.Path.{◌≡◌}
+use native.Mathlib.Omega.{arith}
+use lib.ListN.{length, drop}
+use borrow.Author.Rules.{rules}
+use Rattle.definition.specs.Text.{first_length, lines}
+use Rattle.lines.proofs.Laws.{step_at}
+use Rattle.rows.proofs.Laws.{Left, left_begun, left_done, row_fits, turn}
+use Rattle.rows.proofs.put_before.Given as goal
+
+abbrev pub invariant-loop-i : goal.invariant-loop-i
+invariant-loop-i l = Left l.terminator l.at l.offset l.number l.part l.initial.table l.table l.i l.k
+
+abbrev pub decreases-loop-i : goal.decreases-loop-i
+decreases-loop-i l = length l.part - l.i
