@@ -1,0 +1,6 @@
+-- The closed session, at the door.
+use Rattle.std.proofs.Common.{rules}
+use Rattle.searcher.proofs.Searcher.closed.Goals as goal
+
+pub returns : goal.returns
+returns c = rw c.closed_session-s.ensures
