@@ -115,6 +115,11 @@ class Function:
         self.fields = {p[2][1]: c["fields"] for p, c in zip(generated["places"], generated["clauses"]) if c}
         self.arm = {p[0]: a for p, a in zip(generated["places"], generated["arms"])}
         self.notes = []
+        name = path.split("/")[-1]
+        source = "".join(open(os.path.join(TOP, "crates", crate, "src", f), encoding="utf-8").read()
+                         for f in os.listdir(os.path.join(TOP, "crates", crate, "src")))
+        # an answer of a generic function takes its types first
+        self.first = ["g"] if re.search(r"\bfn " + name + r"<(?!')", source) else []
 
     def up(self, place, n):
         """(n parents up, or None)"""
@@ -304,7 +309,7 @@ class Function:
                 else:
                     to[p] = "l." + p
         body = re.sub(r"(?<![\w'.₀-₉-])(" + ID + ")", lambda m: to.get(m.group(1), m.group(1)), body)
-        out += d["comment"] + [f"abbrev pub {kind}-{new} : goal.{kind}-{new}"] + d["unfolding"] + [f"{kind}-{new} l ={body}", ""]
+        out += d["comment"] + [f"abbrev pub {kind}-{new} : goal.{kind}-{new}"] + d["unfolding"] + [f"{' '.join([f'{kind}-{new}'] + self.first)} l ={body}", ""]
 
     def body_of(self, d, place, helpers, lets, unfolding, seen):
         clause = "\n".join(d["clauses"])
@@ -373,7 +378,7 @@ class Function:
         body = body if body.startswith(("\n", " ")) and "\n" in body else " " + body.strip()
         if "\n" in body and not body.startswith("\n"):
             body = "\n    " + body.strip()
-        lines.append(f"{goal} {' '.join(['c'] + params)} ={body}")
+        lines.append(f"{goal} {' '.join(self.first + ['c'] + params)} ={body}")
         out += lines + [""]
 
 
