@@ -9,7 +9,7 @@ use Rattle.forms.specs.First.{asked_of}
 use Rattle.search_machine.specs.declared.Seen.TheVariants.{Whole, Unfinished, TooLong}
 use Rattle.search_machine.specs.Head.{longest, looked_at}
 use Rattle.printing.specs.Texts.{refused_text}
-use Rattle.heading.proofs.Heads.{first-asks, first-long, first-unfinished, inside, looked_few, once-opened, once-over, once-wants}
+use Rattle.heading.proofs.Heads.{first_asks, first_long, first_unfinished, inside, looked_few, once_opened, once_over, once_wants}
 use Rattle.search_machine.proofs.Places.{part_take}
 use borrow.Author.Rules.{rules}
 use Rattle.heading.proofs.first.Goals as goal
@@ -47,7 +47,7 @@ returns-in-For c =
     let line : part c.args.s.from (c.args.s.from + c.in-Whole.length) c.args.input.now ≡ take c.in-Whole.length (part c.args.s.from c.args.s.to c.args.input.now) =
         part_take c.args.s.from c.args.s.to c.in-Whole.length c.args.input.now (omega (arith, placed)) in
     let asked = sym c.in-For.is ∙ c.first_line.ensures ∙ ap asked_of line in
-    once-opened c.args.s c.args.window.now c.args.literal.now c.args.input.now c.args.out.now c.requires.1 c.in-Whole.length c.in-For.settings c.requires.0 whole asked _ _ c.open.ensures
+    once_opened c.args.s c.args.window.now c.args.literal.now c.args.input.now c.args.out.now c.requires.1 c.in-Whole.length c.in-For.settings c.requires.0 whole asked _ _ c.open.ensures
 
 pub returns-in-OtherForm : goal.returns-in-OtherForm
 returns-in-OtherForm c =
@@ -60,18 +60,18 @@ returns-in-OtherForm c =
     let rest = part c.args.s.from c.args.s.to c.args.input.now in
     let asked = sym c.in-OtherForm.is ∙ c.first_line.ensures ∙ ap asked_of line in
     rw c.over.ensures
-    (once-over c.args.s c.args.window.now c.args.literal.now c.args.input.now c.args.out.now c.requires.1 (refused_text 1) (first-asks c.args.s.stage (take c.args.s.size c.args.literal.now) c.args.s.searcher.session c.args.window.now rest c.in-Whole.length OtherForm c.requires.0 whole asked) _ _ c.refusal.ensures)
+    (once_over c.args.s c.args.window.now c.args.literal.now c.args.input.now c.args.out.now c.requires.1 (refused_text 1) (first_asks c.args.s.stage (take c.args.s.size c.args.literal.now) c.args.s.searcher.session c.args.window.now rest c.in-Whole.length OtherForm c.requires.0 whole asked) _ _ c.refusal.ensures)
 
 pub returns-in-Unfinished : goal.returns-in-Unfinished
 returns-in-Unfinished c =
     let rest = part c.args.s.from c.args.s.to c.args.input.now in
     let unfinished : Unfinished ≡ looked_at rest = sym c.in-Unfinished.is ∙ c.look.ensures in
     rw c.wanting.ensures.value
-    (once-wants c.args.s c.args.window.now c.args.literal.now c.args.input.now c.args.out.now c.requires.1 (first-unfinished c.args.s.stage (take c.args.s.size c.args.literal.now) c.args.s.searcher.session c.args.window.now rest c.requires.0 unfinished) (looked_few rest unfinished) _ c.wanting.ensures.input_after c.wanting.auto.input)
+    (once_wants c.args.s c.args.window.now c.args.literal.now c.args.input.now c.args.out.now c.requires.1 (first_unfinished c.args.s.stage (take c.args.s.size c.args.literal.now) c.args.s.searcher.session c.args.window.now rest c.requires.0 unfinished) (looked_few rest unfinished) _ c.wanting.ensures.input_after c.wanting.auto.input)
 
 pub returns-in-TooLong : goal.returns-in-TooLong
 returns-in-TooLong c =
     let rest = part c.args.s.from c.args.s.to c.args.input.now in
     let long : TooLong ≡ looked_at rest = sym c.in-TooLong.is ∙ c.look.ensures in
     rw c.over-in-TooLong.ensures
-    (once-over c.args.s c.args.window.now c.args.literal.now c.args.input.now c.args.out.now c.requires.1 (refused_text 1) (first-long c.args.s.stage (take c.args.s.size c.args.literal.now) c.args.s.searcher.session c.args.window.now rest c.requires.0 long) _ _ c.refusal-in-TooLong.ensures)
+    (once_over c.args.s c.args.window.now c.args.literal.now c.args.input.now c.args.out.now c.requires.1 (refused_text 1) (first_long c.args.s.stage (take c.args.s.size c.args.literal.now) c.args.s.searcher.session c.args.window.now rest c.requires.0 long) _ _ c.refusal-in-TooLong.ensures)

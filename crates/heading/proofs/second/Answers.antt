@@ -9,7 +9,7 @@ use Rattle.session.proofs.Parts.{part_length}
 use Rattle.search_machine.specs.declared.Seen.TheVariants.{Whole, Unfinished, TooLong}
 use Rattle.search_machine.specs.Head.{longest, looked_at}
 use Rattle.printing.specs.Texts.{refused_text}
-use Rattle.heading.proofs.Heads.{inside, looked_few, once-begun, once-over, once-wants, second-long, second-unfinished}
+use Rattle.heading.proofs.Heads.{inside, looked_few, once_begun, once_over, once_wants, second_long, second_unfinished}
 use borrow.Author.Rules.{rules}
 use Rattle.heading.proofs.second.Goals as goal
 
@@ -73,18 +73,18 @@ returns-in-Whole c =
     let size : length (part c.args.s.from (c.args.s.from + c.in-Whole.length) c.args.input.now) ≡ c.in-Whole.length =
         omega (arith, part_length c.args.s.from (c.args.s.from + c.in-Whole.length) c.args.input.now (omega arith) (omega (arith, placed, c.requires.1.placed))) in
     rw c.begun.ensures
-    (once-begun c.args.s c.args.window.now c.args.literal.now c.args.input.now c.args.out.now c.requires.1 c.in-Whole.length c.choose.result c.requires.0 whole _ (rw (size, c.copy_from_slice.ensures.after)))
+    (once_begun c.args.s c.args.window.now c.args.literal.now c.args.input.now c.args.out.now c.requires.1 c.in-Whole.length c.choose.result c.requires.0 whole _ (rw (size, c.copy_from_slice.ensures.after)))
 
 pub returns-in-Unfinished : goal.returns-in-Unfinished
 returns-in-Unfinished c =
     let rest = part c.args.s.from c.args.s.to c.args.input.now in
     let unfinished : Unfinished ≡ looked_at rest = sym c.in-Unfinished.is ∙ c.look.ensures in
     rw c.wanting.ensures.value
-    (once-wants c.args.s c.args.window.now c.args.literal.now c.args.input.now c.args.out.now c.requires.1 (second-unfinished c.args.s.stage (take c.args.s.size c.args.literal.now) c.args.s.searcher.session c.args.window.now rest c.requires.0 unfinished) (looked_few rest unfinished) _ c.wanting.ensures.input_after c.wanting.auto.input)
+    (once_wants c.args.s c.args.window.now c.args.literal.now c.args.input.now c.args.out.now c.requires.1 (second_unfinished c.args.s.stage (take c.args.s.size c.args.literal.now) c.args.s.searcher.session c.args.window.now rest c.requires.0 unfinished) (looked_few rest unfinished) _ c.wanting.ensures.input_after c.wanting.auto.input)
 
 pub returns-in-TooLong : goal.returns-in-TooLong
 returns-in-TooLong c =
     let rest = part c.args.s.from c.args.s.to c.args.input.now in
     let long : TooLong ≡ looked_at rest = sym c.in-TooLong.is ∙ c.look.ensures in
     rw c.over.ensures
-    (once-over c.args.s c.args.window.now c.args.literal.now c.args.input.now c.args.out.now c.requires.1 (refused_text 1) (second-long c.args.s.stage (take c.args.s.size c.args.literal.now) c.args.s.searcher.session c.args.window.now rest c.requires.0 long) _ _ c.refusal.ensures)
+    (once_over c.args.s c.args.window.now c.args.literal.now c.args.input.now c.args.out.now c.requires.1 (refused_text 1) (second_long c.args.s.stage (take c.args.s.size c.args.literal.now) c.args.s.searcher.session c.args.window.now rest c.requires.0 long) _ _ c.refusal.ensures)

@@ -4,8 +4,8 @@ use mathlib.Core.Bool.{and-eq-true_iff}
 use Rattle.definition.specs.Rows.{row_size}
 use Rattle.search_machine.specs.Standing.{seen, turn_most}
 use Rattle.printing.specs.Texts.{row_most}
-use Rattle.turning.proofs.Answers.{Asked, asked-rows}
-use Rattle.turning.proofs.Looping.{Loop, loop-ends, loop-goes, loop-gives, loop-refuses, loop_start, loop-stops, loop-taken, loop-wants}
+use Rattle.turning.proofs.Answers.{Asked, asked_rows}
+use Rattle.turning.proofs.Looping.{Loop, loop_ends, loop_goes, loop_gives, loop_refuses, loop_start, loop_stops, loop_taken, loop_wants}
 use Rattle.turning.proofs.turns.Given as goal
 
 abbrev pub invariant-loop-turns : goal.invariant-loop-turns
