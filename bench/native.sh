@@ -1,83 +1,64 @@
-# Builds the repository's Rattle crates for the machine at hand, for the scripts here to source. What rt writes is for x86-64.
-# On another machine the same LLVM module is compiled for that machine by the kit's own compiler, since a time under the
-# kit's emulator says nothing; figures are then of that code. Wants $root, the repository.
+# Builds the repository's Rattle crates for release, for the scripts here to source. Wants $root, the repository.
 
-machine=$(uname -m)
 native=$root/target/native
 
-# Links to all that a folder holds, but for one name.
-link_all_but() { # NAME FROM TO
-    mkdir -p "$3"
-    find "$2" -mindepth 1 -maxdepth 1 ! -name "$1" -exec ln -s -t "$3" {} +
-}
-
-# The kit again, but for a compiler that is told this machine as its target, and further words.
-link_kit() { # [WORD ..]
-    local kit here=on/$machine tools=on/$machine/toolchain
-    kit=$(cd "$(dirname "$(rt doc)")/.." && pwd)
-    rm -rf "$native/kit"
-    link_all_but on "$kit" "$native/kit"
-    link_all_but toolchain "$kit/$here" "$native/kit/$here"
-    link_all_but bin "$kit/$tools" "$native/kit/$tools"
-    link_all_but clang "$kit/$tools/bin" "$native/kit/$tools/bin"
-    cat >"$native/kit/$tools/bin/clang" <<END
-#!/usr/bin/env bash
-words=()
-for word; do
-    case $machine\$word in
-    x86_64*) words+=("\$word") ;;
-    $machine--target=*) words+=(--target=$machine-unknown-linux-gnu -Wno-override-module) ;;
-    $machine-march=*) ;;
-    *) words+=("\$word") ;;
-    esac
-done
-exec "$kit/$tools/bin/clang" "\${words[@]}" $*
-END
-    chmod +x "$native/kit/$tools/bin/clang"
-}
-
-# A copy of the repository, so that nothing for another machine is left where what is for x86-64 belongs. What was proved
-# before need not be proved again.
-copy_crates() {
-    rm -rf "$native/copy"
-    mkdir -p "$native/copy/target"
-    cp -r "$root/crates" "$root/crates.txt" "$native/copy/"
-    cp -rp "$root/target/rlib" "$root/target/stamp" "$root/target/log" "$native/copy/target/"
-}
-
-# Proves what is named, libraries and programs, so that they can be built.
-prepare() { # CRATE ..
-    mkdir -p "$native/apart"
-    (cd "$root" && rt check "$@") >"$native/check.log" 2>&1 || {
-        cat "$native/check.log" >&2
-        return 1
-    }
-    link_kit
-    copy_crates
-    [ "$machine" = x86_64 ] || echo "on $machine: the LLVM modules are compiled for this machine, not for x86-64"
-}
-
-# Leaves target/native/libNAME.a, or one in another folder.
-build_library() { # NAME [FOLDER]
-    (cd "$native/copy" && RATTLE_HOME=$native/kit rt staticlib "$1") >"$native/$1.log" 2>&1 || {
+# Runs a command of rt in a crate, and shows what it says where it fails.
+in_crate() { # CRATE RT WORD
+    mkdir -p "$native"
+    (cd "$root/crates/$1" && "$2" "$3" </dev/null) >"$native/$1.log" 2>&1 || {
         cat "$native/$1.log" >&2
         return 1
     }
-    cp "$native/copy/target/staticlib/lib$1.a" "${2:-$native}/"
 }
 
-# Leaves target/native/apart/libNAME.a, in which each function stands by itself, for a profile.
-build_apart() { # NAME
-    link_kit -mllvm -inline-threshold=-100000
-    build_library "$1" "$native/apart"
-    link_kit
+# Proves a static library, and leaves it as target/native/libNAME.a or in another folder.
+build_library() { # NAME [FOLDER [RT]]
+    local folder=${2:-$native}
+    in_crate "$1" "${3:-rt}" lib || return
+    mkdir -p "$folder"
+    mv "$root/crates/$1/out/lib$1.a" "$folder/"
 }
 
-# Leaves target/native/NAME. rt links for x86-64 only, so its object is linked here; of the kit's C code it needs one function.
+# Proves a program, and leaves it as target/native/NAME. rt also runs what it has built, here on nothing.
 build_program() { # NAME
-    local copy=$native/copy/target
-    rm -f "$copy/stamp/$1" "$copy/obj/$1.o"
-    (cd "$native/copy" && RATTLE_HOME=$native/kit rt check "$1") >"$native/$1.log" 2>&1 || :
-    printf '#include <errno.h>\nint rattle_errno(void) { return errno; }\n' >"$native/errno.c"
-    gcc -O2 -no-pie -o "$native/$1" "$copy/obj/$1.o" "$native/errno.c"
+    in_crate "$1" rt run || return
+    cp "$root/crates/$1/out/$1" "$native/"
+}
+
+# Links to all that a folder holds, but for some names.
+link_all_but() { # FROM TO NAME ..
+    local from=$1 to=$2 name but=()
+    shift 2
+    for name; do
+        but+=(! -name "$name")
+    done
+    mkdir -p "$to"
+    find "$from" -mindepth 1 -maxdepth 1 "${but[@]}" -exec ln -s -t "$to" {} +
+}
+
+# The kit again, but for a compiler that is told further words. rt takes the kit that it stands in, so it is copied.
+link_kit() { # FOLDER WORD ..
+    local kit folder=$1
+    shift
+    kit=$(dirname "$(rt doc)")
+    link_all_but "$kit" "$folder" bin toolchain
+    link_all_but "$kit/bin" "$folder/bin" rt rtlib.py
+    cp "$kit/bin/rt" "$kit/bin/rtlib.py" "$folder/bin/"
+    link_all_but "$kit/toolchain" "$folder/toolchain" bin
+    link_all_but "$kit/toolchain/bin" "$folder/toolchain/bin" clang
+    printf '#!/bin/sh\nexec "%s" "$@" %s\n' "$kit/toolchain/bin/clang" "$*" >"$folder/toolchain/bin/clang"
+    chmod +x "$folder/toolchain/bin/clang"
+}
+
+# Leaves target/native/apart/libNAME.a, in which each function stands by itself, for a profile. The links are not left in the
+# repository, where rt takes none.
+build_apart() { # NAME
+    local folder
+    folder=$(mktemp -d)
+    link_kit "$folder" -mllvm -inline-threshold=-100000
+    build_library "$1" "$native/apart" "$folder/bin/rt" || {
+        rm -rf "$folder"
+        return 1
+    }
+    rm -rf "$folder"
 }

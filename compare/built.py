@@ -1,15 +1,11 @@
-"""The programs as rt builds them, and how they are run: under the kit's loader and, on another processor, its emulator."""
+"""The programs as rt builds them, and how they are run."""
 
 import os
-import platform
 import subprocess
 import sys
-from functools import lru_cache
 from pathlib import Path
 
 ROOT = Path(__file__).resolve().parent.parent
-# Another folder with the programs may stand in SIROVANY_PROGRAMS.
-FOLDER = Path(os.environ.get("SIROVANY_PROGRAMS", ROOT / "target" / "bin"))
 
 
 def want(*things):
@@ -18,11 +14,12 @@ def want(*things):
         sys.exit(2)
 
 
-@lru_cache
-def command(name, folder=FOLDER):
+def program(name):
+    """A program's file. A folder with all of them may stand in SIROVANY_PROGRAMS; else each stands where rt leaves it."""
+    folder = os.environ.get("SIROVANY_PROGRAMS")
+    return (Path(folder) if folder else ROOT / "crates" / name / "out").resolve() / name
+
+
+def command(name):
     """The words that run a program."""
-    guide = subprocess.run(["rt", "doc"], capture_output=True, text=True, check=True).stdout.strip()
-    tools = Path(guide).parent.parent / "on" / platform.machine() / "toolchain"
-    emulator = tools / "bin" / "qemu-x86_64"
-    loader = [str(tools / "lib" / "ld-linux-x86-64.so.2"), "--library-path", str(tools / "lib")]
-    return [*([str(emulator)] if emulator.exists() else []), *loader, str(folder / name)]
+    return [str(program(name))]

@@ -23,6 +23,8 @@ IS_OPEN = {"machine/proofs/Turns.antt", "promises/proofs/Caller.antt", "promises
 NAME = r"[^\W\d][\w'₀-₉-]*"
 HEAD = re.compile(r"^(?:abbrev |unfoldable |pub |ruleset )*(" + NAME + r")(?: (?:\(|\{).*)? :(?: |$)")
 FIELD = re.compile(r"^ +(?:pub )?(" + NAME + r") : ")
+# a lemma of a section, `module _ (..) where`, or one below a `where`
+INNER = re.compile(r"^ +(?:abbrev |unfoldable |pub )*(" + NAME + r") : ")
 TOKEN = re.compile(NAME)
 
 
@@ -50,8 +52,8 @@ def write(path, text):
 
 
 def own_names():
-    """The names to turn: each definition, lemma and field of specs/ and of the lemma files of proofs/."""
-    found = {}
+    """The names to turn: each definition, lemma and field of specs/ and of the lemma files of proofs/; and which are fields."""
+    found, fields = {}, set()
     for p in files(".antt"):
         # a Proof.antt has the names that Rattle makes
         if os.path.basename(p) == "Proof.antt":
@@ -66,9 +68,12 @@ def own_names():
                 inside = line.split()[1]
             elif inside and FIELD.match(line):
                 found.setdefault(FIELD.match(line).group(1), set()).add(p)
+                fields.add(FIELD.match(line).group(1))
+            elif INNER.match(line) and "-" in INNER.match(line).group(1):
+                found.setdefault(INNER.match(line).group(1), set()).add(p)
             elif line and not line.startswith(" "):
                 inside = None
-    return found
+    return found, fields
 
 
 def library_names():
@@ -139,11 +144,11 @@ def turn_page(text, names):
 
 def main():
     kit = library_names()
-    found = own_names()
+    found, fields = own_names()
     names = {n: snake(n) for n in found if snake(n) != n and n[0].islower() and n not in kit}
     # a lemma that would have its definition's name
     for n in names:
-        if "-" in n and any(m != n and snake(m) == snake(n) for m in found):
+        if "-" in n and n not in fields and any(m != n and snake(m) == snake(n) for m in found):
             names[n] = snake(n) + "_lem"
     together = {}
     for n in found:

@@ -22,7 +22,7 @@ ALONE = re.compile(r"(?:search rules|omega arith|refl|tt)$")
 
 
 def norm(name):
-    return re.sub("_lem$", "", name.replace("-", "_").lower())
+    return re.sub("_lem$", "", name.strip("«»").replace("-", "_").lower())
 
 
 def components(text):
@@ -115,6 +115,11 @@ class Function:
         self.fields = {p[2][1]: c["fields"] for p, c in zip(generated["places"], generated["clauses"]) if c}
         self.arm = {p[0]: a for p, a in zip(generated["places"], generated["arms"])}
         self.notes = []
+        name = path.split("/")[-1]
+        source = "".join(open(os.path.join(TOP, "crates", crate, "src", f), encoding="utf-8").read()
+                         for f in os.listdir(os.path.join(TOP, "crates", crate, "src")))
+        # an answer of a generic function takes its types first
+        self.first = ["g"] if re.search(r"\bfn " + name + r"<(?!')", source) else []
 
     def up(self, place, n):
         """(n parents up, or None)"""
@@ -167,6 +172,14 @@ class Function:
         fields = self.fields.get(new)
         if fields and len(rest) > 1 and rest[0] == "ensures" and rest[1].isdigit() and int(rest[1]) < len(fields):
             rest = ["ensures", fields[int(rest[1])]] + rest[2:]
+        # what a call left of a parameter, by its name
+        if len(rest) > 1 and rest[0] in ("auto", "new") and rest[1] in "01":
+            callee = next((q[3] for q in self.place.values() if q[2][1] == new and q[3]), None)
+            params, n = self.json["params"].get(callee, []), 0
+            while 1 + n < len(rest) and rest[1 + n] == "1":
+                n += 1
+            if 1 + n < len(rest) and rest[1 + n] == "0" and n < len(params):
+                rest = [rest[0], params[n]] + rest[2 + n:]
         return ".".join(["c", new] + rest)
 
     def turn(self, body, place, bound="c"):
@@ -201,7 +214,7 @@ class Function:
             new = self.chain(at, n, parts)
             return new
 
-        body = re.sub(r"(?<![\w'.₀-₉-])(" + ID + r")((?:\.[\w'-]+)*)", path, body)
+        body = re.sub(r"(?<![\w'.₀-₉-])(" + ID + r")((?:\.(?:[\w'-]+|«[\w-]+»))*)", path, body)
         # let a = c.args in
         for m in list(re.finditer(r"\blet (" + ID + r") = (c(?:\.[\w'?-]+)+) in\s*", body)):
             simple[m.group(1)] = m.group(2)
@@ -296,7 +309,7 @@ class Function:
                 else:
                     to[p] = "l." + p
         body = re.sub(r"(?<![\w'.₀-₉-])(" + ID + ")", lambda m: to.get(m.group(1), m.group(1)), body)
-        out += d["comment"] + [f"abbrev pub {kind}-{new} : goal.{kind}-{new}"] + d["unfolding"] + [f"{kind}-{new} l ={body}", ""]
+        out += d["comment"] + [f"abbrev pub {kind}-{new} : goal.{kind}-{new}"] + d["unfolding"] + [f"{' '.join([f'{kind}-{new}'] + self.first)} l ={body}", ""]
 
     def body_of(self, d, place, helpers, lets, unfolding, seen):
         clause = "\n".join(d["clauses"])
@@ -365,7 +378,7 @@ class Function:
         body = body if body.startswith(("\n", " ")) and "\n" in body else " " + body.strip()
         if "\n" in body and not body.startswith("\n"):
             body = "\n    " + body.strip()
-        lines.append(f"{goal} {' '.join(['c'] + params)} ={body}")
+        lines.append(f"{goal} {' '.join(self.first + ['c'] + params)} ={body}")
         out += lines + [""]
 
 

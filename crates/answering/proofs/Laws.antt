@@ -10,14 +10,14 @@ use Rattle.session.specs.declared.Session.{Session}
 use Rattle.session.specs.Calls.{answer_answer, answer_rows, answer_session, answer_table, answered, answered_table, answering, places_next}
 use Rattle.session.specs.Held.{line_length, shown, since, waits}
 use Rattle.session.specs.Sound.{sound}
-use Rattle.session.proofs.Cases.{AnswerCase, answer-is}
+use Rattle.session.proofs.Cases.{AnswerCase, answer_is}
 
 -- refused by 6 before the line is looked at
 pub answered_refused : (s : Session) (w table : List ℕ) (hit : Bool) → AnswerCase s w (length table) hit (AnswerRefused 6)
     → (record { refusal = 6; rows = 0; session = s } ≡ answered s w table hit) × (table ≡ answered_table s w table hit)
 unfolding answered answered_table
 answered_refused s w table hit h =
-    let is = answer-is s w (length table) hit (AnswerRefused 6) h in
+    let is = answer_is s w (length table) hit (AnswerRefused 6) h in
     (rw is, rw is)
 
 -- what the core gives, in the session's words
@@ -44,26 +44,26 @@ module _ (s : Session) (w table : List ℕ) (hit : Bool) (e : sound s (length w)
   by_bits false true = refl
   by_bits false false = refl
 
-  pub answered-given : in_window s (line_length s w) gave ≡ answered s w table hit
+  pub answered_given : in_window s (line_length s w) gave ≡ answered s w table hit
   unfolding answered given answering_since
-  answered-given =
+  answered_given =
       rw decided
       (by_bits (below_one_since s.walk (since s w) hit) (ltb (length table) (row_size * length (rows_since s.walk (since s w) (line_length s w) hit))))
 
   -- by whether the core refused
-  pub given-refused : (g : Given) → g ≡ gave → (g.refusal ≡ 0 → ⊥) → record { refusal = g.refusal; rows = 0; session = s } ≡ answered s w table hit
-  given-refused g h k = rw (ne_eqb g.refusal 0 k) at (ap (in_window s (line_length s w)) h ∙ answered-given)
+  pub given_refused : (g : Given) → g ≡ gave → (g.refusal ≡ 0 → ⊥) → record { refusal = g.refusal; rows = 0; session = s } ≡ answered s w table hit
+  given_refused g h k = rw (ne_eqb g.refusal 0 k) at (ap (in_window s (line_length s w)) h ∙ answered_given)
 
-  pub given-served : (g : Given) → g ≡ gave → g.refusal ≡ 0
+  pub given_served : (g : Given) → g ≡ gave → g.refusal ≡ 0
       → record { refusal = 0; rows = g.rows; session = record { walk = walk_step g.fate s.walk (line_length s w); places = places_next s.places (line_length s w) (gets_row g.fate) } }
       ≡ answered s w table hit
-  given-served g h k = rw (eq-eqb g.refusal 0 k) at (ap (in_window s (line_length s w)) h ∙ answered-given)
+  given_served g h k = rw (eq-eqb g.refusal 0 k) at (ap (in_window s (line_length s w)) h ∙ answered_given)
 
   table_of : (o : AnswerDecision) → given_table_by o s.walk (since s w) (line_length s w) table hit ≡ answer_table o s w table hit
   unfolding answer_rows
   table_of (AnswerRefused n) = refl
   table_of Give = refl
 
-  pub table-given : given_table s.walk (since s w) (line_length s w) table hit ≡ answered_table s w table hit
+  pub table_given : given_table s.walk (since s w) (line_length s w) table hit ≡ answered_table s w table hit
   unfolding answered_table given_table
-  table-given = rw decided (table_of (answering_since s.walk (since s w) (line_length s w) (length table) hit))
+  table_given = rw decided (table_of (answering_since s.walk (since s w) (line_length s w) (length table) hit))

@@ -15,9 +15,9 @@ at_front place =
     ap (λ n. (place.0, n)) e
 
 module _ (s : Session) (w : List ℕ) where
-  pub waiting-refused : sound s (length w) ≡ false → WaitingRefused ≡ waiting s w
+  pub waiting_refused : sound s (length w) ≡ false → WaitingRefused ≡ waiting s w
   unfolding waiting
-  waiting-refused e = rw e
+  waiting_refused e = rw e
 
   pub waiting_line : sound s (length w) ≡ true → waits s w ≡ true → LineWaits ≡ waiting s w
   unfolding waiting
@@ -27,11 +27,11 @@ module _ (s : Session) (w : List ℕ) where
   unfolding waiting
   waiting_none e v = rw (e, v)
 
-  pub shown-refused : sound s (length w) ≡ false → ([] ≡ shown_line s w) × (0 ≡ shown_from s (length w))
+  pub shown_refused : sound s (length w) ≡ false → ([] ≡ shown_line s w) × (0 ≡ shown_from s (length w))
   unfolding shown_line shown_from
-  shown-refused e = (rw e, rw e)
+  shown_refused e = (rw e, rw e)
 
-  pub shown-served : sound s (length w) ≡ true
+  pub shown_served : sound s (length w) ≡ true
       → (shown_ahead s.walk (is_open s.places.input) (unanswered s w) ≡ shown_line s w) × (s.places.next ≡ shown_from s (length w))
   unfolding shown_line shown_from
-  shown-served e = (rw e, rw e)
+  shown_served e = (rw e, rw e)

@@ -17,9 +17,9 @@ module _ (c : Settings) (sel : Bool) (left : ℕ) where
     passes : sel ≡ false → left ≡ 0 → c.passthru ≡ true → FateCase Other
     skips : sel ≡ false → left ≡ 0 → c.passthru ≡ false → FateCase NoRow
 
-  pub fate-case : FateCase (fate c sel left)
+  pub fate_case : FateCase (fate c sel left)
   unfolding fate
-  fate-case = go sel (ltb 0 left) c.passthru refl refl refl
+  fate_case = go sel (ltb 0 left) c.passthru refl refl refl
     where
       go : (b l p : Bool) → sel ≡ b → ltb 0 left ≡ l → c.passthru ≡ p → FateCase (cond b Match (cond l After (cond p Other NoRow)))
       go true l p e h k = selects e

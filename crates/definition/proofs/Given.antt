@@ -13,7 +13,7 @@ use Rattle.definition.specs.declared.Settings.{Settings}
 use Rattle.definition.specs.Bounds.{contextual}
 use Rattle.definition.specs.Definition.{has_row, rowless, last_of, last_number, between, break_before, give}
 use Rattle.definition.specs.Rows.{Line, row, break}
-use Rattle.definition.proofs.Lists.{lastOf-append, lastOf-lastOf}
+use Rattle.definition.proofs.Lists.{last_of_append, last_of_last_of}
 
 -- # Numbers
 
@@ -151,9 +151,9 @@ unfolding rowless last_of
 covered_snoc n rows ls l k e =
     let own : Covered rows (last_of n (l ∷ [])) = covered_drop (1 - n) rows (l ∷ []) (covered_cons rows l [] e refl) in
     let old : Covered rows (last_of (n - 1) ls) =
-    rw (lastOf-lastOf (n - 1) n ls (omega arith)) at (covered_drop (length (last_of n ls) - (n - 1)) rows (last_of n ls) k)
+    rw (last_of_last_of (n - 1) n ls (omega arith)) at (covered_drop (length (last_of n ls) - (n - 1)) rows (last_of n ls) k)
     in
-    rw (lastOf-append n ls (l ∷ []), rowless_append rows (last_of (n - 1) ls) (last_of n (l ∷ [])), old, own)
+    rw (last_of_append n ls (l ∷ []), rowless_append rows (last_of (n - 1) ls) (last_of n (l ∷ [])), old, own)
 
 -- # Lines between two rows
 

@@ -19,7 +19,7 @@ use Rattle.definition.specs.Definition.{last_of, kept_lines}
 use Rattle.definition.specs.Laws.{RowsBegin, KeptEnough, TrimRows, TrimState}
 use Rattle.definition.specs.Rows.{Line, row, break, before_kind, match_kind}
 use Rattle.definition.specs.State.{State, next_line, breaks, rows_for, state_next, fate_of, step_rows, step_state, state, rows, trim, kept_rows}
-use Rattle.definition.proofs.Lists.{lastOf-trim-append, length-lastOf, lastOf-lastOf}
+use Rattle.definition.proofs.Lists.{last_of_trim_append, length_last_of, last_of_last_of}
 
 -- # A beginning of the lines
 
@@ -76,8 +76,8 @@ before≤kept c = go (ltb 0 c.before) refl
 -- one line more than B tells whether there are more than B
 more_kept : (n : ℕ) (xs : List Line) → ltb n (length (last_of (n + 1) xs)) ≡ ltb n (length xs)
 more_kept n xs = elim (dec_le (n + 1) (length xs)) [
-  | yes h ↦ lt-ltb n (length (last_of (n + 1) xs)) (omega (arith, length-lastOf (n + 1) xs)) ∙ sym (lt-ltb n (length xs) (omega arith))
-  | no h ↦ le-ltb n (length (last_of (n + 1) xs)) (omega (arith, length-lastOf (n + 1) xs)) ∙ sym (le-ltb n (length xs) (omega arith))
+  | yes h ↦ lt-ltb n (length (last_of (n + 1) xs)) (omega (arith, length_last_of (n + 1) xs)) ∙ sym (lt-ltb n (length xs) (omega arith))
+  | no h ↦ le-ltb n (length (last_of (n + 1) xs)) (omega (arith, length_last_of (n + 1) xs)) ∙ sym (le-ltb n (length xs) (omega arith))
 ]
 
 trim_breaks : (c : Settings) (s : State) → breaks c (trim c s) ≡ breaks c s
@@ -92,7 +92,7 @@ trim_breaks c s = go (contextual c) refl
 
 trim_rows_for : (f : Fate) (c : Settings) (s : State) (len : ℕ) → rows_for f c (trim c s) (next_line (trim c s) len) ≡ rows_for f c s (next_line s len)
 unfolding next_line trim
-trim_rows_for Match c s len = rw (trim_breaks c s, lastOf-lastOf c.before (kept_lines c) s.since (before≤kept c))
+trim_rows_for Match c s len = rw (trim_breaks c s, last_of_last_of c.before (kept_lines c) s.since (before≤kept c))
 trim_rows_for After c s len = refl
 trim_rows_for Other c s len = refl
 trim_rows_for NoRow c s len = refl
@@ -109,11 +109,11 @@ unfolding state_next trim next_line
 trim_state_next Match c s len = refl
 trim_state_next After c s len = refl
 trim_state_next Other c s len = refl
-trim_state_next NoRow c s len = rw (lastOf-trim-append (kept_lines c) s.since (next_line s len ∷ []))
+trim_state_next NoRow c s len = rw (last_of_trim_append (kept_lines c) s.since (next_line s len ∷ []))
 
 trim_trim : (c : Settings) (s : State) → trim c (trim c s) ≡ trim c s
 unfolding trim
-trim_trim c s = rw (lastOf-lastOf (kept_lines c) (kept_lines c) s.since (omega arith))
+trim_trim c s = rw (last_of_last_of (kept_lines c) (kept_lines c) s.since (omega arith))
 
 pub trim_step_state : (g : Going) (c : Settings) (s : State) (len : ℕ) (answer : Bool) → trim c (step_state g c (trim c s) len answer) ≡ trim c (step_state g c s len answer)
 unfolding fate_of trim
@@ -174,7 +174,7 @@ rows_for_most Match c s l =
       length-append (cond all (break ∷ []) []) (befores ++ (row match_kind l ∷ [])),
       length-append befores (row match_kind l ∷ []),
       length-map (last_of c.before s.since) (row before_kind),
-      length-lastOf c.before s.since,
+      length_last_of c.before s.since,
     )
 rows_for_most After c s l = omega arith
 rows_for_most Other c s l = omega arith

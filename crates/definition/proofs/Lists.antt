@@ -13,13 +13,13 @@ use Rattle.definition.specs.Rows.{flat, rows_in}
 use Rattle.definition.specs.Text.{put_at}
 
 module _ {ℓ} {A : Type ℓ} where
-  pub length-lastOf : (n : ℕ) (xs : List A) → length (last_of n xs) ≡ length xs - (length xs - n)
+  pub length_last_of : (n : ℕ) (xs : List A) → length (last_of n xs) ≡ length xs - (length xs - n)
   unfolding last_of
-  length-lastOf n xs = length-drop (length xs - n) xs
+  length_last_of n xs = length-drop (length xs - n) xs
 
-  pub lastOf-append : (n : ℕ) (xs ys : List A) → last_of n (xs ++ ys) ≡ last_of (n - length ys) xs ++ last_of n ys
+  pub last_of_append : (n : ℕ) (xs ys : List A) → last_of n (xs ++ ys) ≡ last_of (n - length ys) xs ++ last_of n ys
   unfolding last_of
-  lastOf-append n xs ys = elim (dec_le n (length ys)) [ yes h ↦ inside h | no h ↦ across (omega arith) ]
+  last_of_append n xs ys = elim (dec_le n (length ys)) [ yes h ↦ inside h | no h ↦ across (omega arith) ]
     where
       inside : n ≤ length ys → drop (length (xs ++ ys) - n) (xs ++ ys) ≡ drop (length xs - (n - length ys)) xs ++ drop (length ys - n) ys
       inside h =
@@ -33,19 +33,19 @@ module _ {ℓ} {A : Type ℓ} where
           let k : length ys - n ≡ 0 = omega arith in
           rw (e, k) (drop-append-le (length xs - (n - length ys)) xs ys (omega arith))
 
-  pub lastOf-lastOf : (m n : ℕ) (xs : List A) → m ≤ n → last_of m (last_of n xs) ≡ last_of m xs
+  pub last_of_last_of : (m n : ℕ) (xs : List A) → m ≤ n → last_of m (last_of n xs) ≡ last_of m xs
   unfolding last_of
-  lastOf-lastOf m n xs h =
+  last_of_last_of m n xs h =
       let k = length xs - n in
       let e : k + (length (drop k xs) - m) ≡ length xs - m = omega (arith, length-drop k xs) in
       drop-drop (length (drop k xs) - m) k xs ∙ rw e
 
   -- what is dropped before an append is dropped after it
-  pub lastOf-trim-append : (n : ℕ) (xs ys : List A) → last_of n (last_of n xs ++ ys) ≡ last_of n (xs ++ ys)
-  lastOf-trim-append n xs ys =
-      lastOf-append n (last_of n xs) ys
-      ∙ ap (λ zs. zs ++ last_of n ys) (lastOf-lastOf (n - length ys) n xs (omega arith))
-      ∙ sym (lastOf-append n xs ys)
+  pub last_of_trim_append : (n : ℕ) (xs ys : List A) → last_of n (last_of n xs ++ ys) ≡ last_of n (xs ++ ys)
+  last_of_trim_append n xs ys =
+      last_of_append n (last_of n xs) ys
+      ∙ ap (λ zs. zs ++ last_of n ys) (last_of_last_of (n - length ys) n xs (omega arith))
+      ∙ sym (last_of_append n xs ys)
 
 pub flatten_append : (xs ys : List (List ℕ)) → flatten (xs ++ ys) ≡ flatten xs ++ flatten ys
 unfolding flatten

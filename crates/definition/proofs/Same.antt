@@ -22,10 +22,10 @@ use Rattle.definition.specs.Laws.{SameLines, SameRows, SameEnd, EmptyText, final
 use Rattle.definition.specs.Rows.{Line, row, break, placed, match_kind, before_kind, after_kind, other_kind}
 use Rattle.definition.specs.State.{State, begun, next_line, breaks, rows_for, state_next, given_next, since_next, fate_of, step_rows, step_state, state, rows, trim}
 use Rattle.definition.specs.Text.{lines, text}
-use Rattle.definition.proofs.Fates.{FateCase, selects, owes, passes, skips, fate-case}
+use Rattle.definition.proofs.Fates.{FateCase, selects, owes, passes, skips, fate_case}
 use Rattle.definition.proofs.Given.{Numbered, numbered_append, numbered_join, AtMost, at_most_join, at_most_more, at_most_rows, last_number_append, own_row, keeps_left, keeps_right, rowless_append, rowless_later, Covered, covered_more, covered_drop, covered_given, covered_snoc, between_append, between_before, between_behind, between_inside, follow_rows, give_next, gap, give_gap}
 use Rattle.definition.proofs.Kept.{state_stopped, rows_stopped}
-use Rattle.definition.proofs.Lists.{lastOf-append, lastOf-lastOf}
+use Rattle.definition.proofs.Lists.{last_of_append, last_of_last_of}
 
 pub record Agree (c : Settings) (g : Gone) (s : State) : Type 0 where
   -- the lines up to the last with a row
@@ -67,29 +67,29 @@ agree_start c =
 -- # The rows of a match, over the parts that the invariant names
 
 module _ (rs : List Row) (done since : List Line) (numbers : Numbered 1 (done ++ since)) (at_most : AtMost (length done) rs) where
-  since-numbers : Numbered (1 + length done) since
-  since-numbers = (numbered_append 1 done since numbers).1
+  since_numbers : Numbered (1 + length done) since
+  since_numbers = (numbered_append 1 done since numbers).1
 
   -- "those of the last B lines before it that have no row yet" are the last B of the lines since
-  before-are : (n : ℕ) → Covered rs (last_of n done) → rowless rs (last_of n (done ++ since)) ≡ last_of n since
+  before_are : (n : ℕ) → Covered rs (last_of n done) → rowless rs (last_of n (done ++ since)) ≡ last_of n since
   unfolding last_of
-  before-are n covered =
+  before_are n covered =
       let old : Covered rs (last_of (n - length since) done) =
-      rw (lastOf-lastOf (n - length since) n done (omega arith))
+      rw (last_of_last_of (n - length since) n done (omega arith))
       at (covered_drop (length (last_of n done) - (n - length since)) rs (last_of n done) covered)
       in
       let split = take-append-drop (length since - n) since in
-      let back = (numbered_append (1 + length done) (take (length since - n) since) (last_of n since) (rw split since-numbers)).1 in
-      rw (lastOf-append n done since, rowless_append rs (last_of (n - length since) done) (last_of n since), old)
+      let back = (numbered_append (1 + length done) (take (length since - n) since) (last_of n since) (rw split since_numbers)).1 in
+      rw (last_of_append n done since, rowless_append rs (last_of (n - length since) done) (last_of n since), old)
       (rowless_later (length done) (1 + length done + length (take (length since - n) since)) rs (last_of n since) at_most back (omega arith))
 
   -- the lines between the last row and the first of those are the lines since that lie further back
-  between-are : (early late : List Line) → since ≡ early ++ late → last_number 0 rs ≡ length done
+  between_are : (early late : List Line) → since ≡ early ++ late → last_number 0 rs ≡ length done
       → rowless rs (between (last_number 0 rs) (1 + length done + length early) (done ++ since)) ≡ early
-  between-are early late e last =
+  between_are early late e last =
       let n = length done in
       let b = 1 + n + length early in
-      let parts = numbered_append (1 + n) early late (rw e at since-numbers) in
+      let parts = numbered_append (1 + n) early late (rw e at since_numbers) in
       rw (
         e,
         last,
@@ -103,22 +103,22 @@ module _ (rs : List Row) (done since : List Line) (numbers : Numbered 1 (done ++
       (rowless_later n (1 + n) rs early at_most parts.0 (omega arith))
 
   -- the rows that a match gives
-  match-rows : (c : Settings) (l : Line) → l.number ≡ 1 + length (done ++ since) → last_number 0 rs ≡ length done → Covered rs (last_of c.before done)
+  match_rows : (c : Settings) (l : Line) → l.number ≡ 1 + length (done ++ since) → last_number 0 rs ≡ length done → Covered rs (last_of c.before done)
       → give c (done ++ since) rs (own_rows Match c (done ++ since) rs l)
       ≡ rs ++ (gap c rs (take (length since - c.before) since) ++ (map (row before_kind) (last_of c.before since) ++ (row match_kind l ∷ [])))
   unfolding last_of
-  match-rows c l number last covered =
+  match_rows c l number last covered =
       let early = take (length since - c.before) since in
       let late = last_of c.before since in
       let split = take-append-drop (length since - c.before) since in
-      let back = (numbered_append (1 + length done) early late (rw split since-numbers)).1 in
+      let back = (numbered_append (1 + length done) early late (rw split since_numbers)).1 in
       let own : l.number ≡ 1 + length done + length early + length late =
       omega (arith, number, length-append done since, length-append early late, ap length split)
       in
-      rw (before-are c.before covered)
+      rw (before_are c.before covered)
       (give_gap c (done ++ since) rs (1 + length done + length early) early (map (row before_kind) late) (row match_kind l)
       (follow_rows before_kind (1 + length done + length early) late (row match_kind l) back own)
-      (between-are early late (sym split) last))
+      (between_are early late (sym split) last))
 
 at_most_break : (n : ℕ) (b : Bool) → AtMost n (cond b (break ∷ []) [])
 at_most_break n true = (omega arith, tt)
@@ -136,8 +136,8 @@ module _ (c : Settings) (g : Gone) (s : State) (a : Agree c g s) (len : ℕ) whe
   unfolding next_line
   number_is = omega (arith, a.lines_is)
 
-  numbers-next : Numbered 1 (g.seen ++ (next_line s len ∷ []))
-  numbers-next = numbered_join 1 g.seen (next_line s len ∷ []) a.numbers (number_is, tt)
+  numbers_next : Numbered 1 (g.seen ++ (next_line s len ∷ []))
+  numbers_next = numbered_join 1 g.seen (next_line s len ∷ []) a.numbers (number_is, tt)
 
   bytes_next : bytes_of (g.seen ++ (next_line s len ∷ [])) ≡ s.bytes + len
   unfolding next_line bytes_of
@@ -164,7 +164,7 @@ module _ (c : Settings) (g : Gone) (s : State) (a : Agree c g s) (len : ℕ) whe
       record {
         done = g.seen ++ (l ∷ []);
         seen_is = rw none-since (sym (append-nil (g.seen ++ (l ∷ []))));
-        numbers = numbers-next;
+        numbers = numbers_next;
         at_most = rw rows_are (at_most_join (length (g.seen ++ (l ∷ []))) rs (row k l ∷ []) (at_most_more (length g.seen) (length (g.seen ++ (l ∷ []))) rs (omega (arith, len_is)) most) (omega (arith, len_is, number_is), tt));
         last_is = rw rows_are (last_number_append 0 rs (row k l ∷ []) ∙ omega (arith, len_is, number_is));
         given_is = rw (some-given, rows_are) (sym (lt-ltb 0 (length (rs ++ (row k l ∷ []))) (omega (arith, length-append rs (row k l ∷ [])))));
@@ -191,10 +191,10 @@ module _ (c : Settings) (g : Gone) (s : State) (a : Agree c g s) (len : ℕ) whe
       × Agree c (gone_next f c g (next_line s len)) (state_next f c s len)
 
   -- a row right after the last one
-  step-next : (f : Fate) (k : ℕ) → s.since ≡ [] → since_next f s.since (next_line s len) ≡ [] → given_next f s.given ≡ true
+  step_next : (f : Fate) (k : ℕ) → s.since ≡ [] → since_next f s.since (next_line s len) ≡ [] → given_next f s.given ≡ true
       → own_rows f c g.seen g.rows (next_line s len) ≡ row k (next_line s len) ∷ [] → rows_for f c s (next_line s len) ≡ row k (next_line s len) ∷ []
       → Step f
-  step-next f k none none-since some-given own own' =
+  step_next f k none none-since some-given own own' =
       let l = next_line s len in
       let all_done : g.seen ≡ a.done = a.seen_is ∙ (rw none (append-nil a.done)) in
       let follows : l.number ≡ last_number 0 g.rows + 1 = omega (arith, number_is, a.last_is, ap length all_done) in
@@ -223,55 +223,55 @@ module _ (c : Settings) (g : Gone) (s : State) (a : Agree c g s) (len : ℕ) whe
       in
       rw (more, a.given_is)
 
-  match-own : (gone_next Match c g (next_line s len)).rows
+  match_own : (gone_next Match c g (next_line s len)).rows
       ≡ g.rows ++ (gap c g.rows early ++ (map (row before_kind) (last_of c.before s.since) ++ (row match_kind (next_line s len) ∷ [])))
   unfolding early
-  match-own =
+  match_own =
       rw a.seen_is
-      (match-rows g.rows a.done s.since (rw a.seen_is at a.numbers) a.at_most c (next_line s len) (rw a.seen_is at number_is) a.last_is a.covered)
+      (match_rows g.rows a.done s.since (rw a.seen_is at a.numbers) a.at_most c (next_line s len) (rw a.seen_is at number_is) a.last_is a.covered)
 
-  late-most : AtMost (length g.seen) (map (row before_kind) (last_of c.before s.since))
+  late_most : AtMost (length g.seen) (map (row before_kind) (last_of c.before s.since))
   unfolding last_of
-  late-most =
+  late_most =
       let split = take-append-drop (length s.since - c.before) s.since in
       let late = last_of c.before s.since in
       let front = take (length s.since - c.before) s.since in
-      let numbers = since-numbers g.rows a.done s.since (rw a.seen_is at a.numbers) a.at_most in
+      let numbers = since_numbers g.rows a.done s.since (rw a.seen_is at a.numbers) a.at_most in
       let back = (numbered_append (1 + length a.done) front late (rw split numbers)).1 in
       at_most_rows before_kind (length g.seen) (1 + length a.done + length front) late back
       (omega (arith, ap length a.seen_is, length-append a.done s.since, length-append front late, ap length split))
 
-  step-match : Step Match
-  step-match =
+  step_match : Step Match
+  step_match =
       let l = next_line s len in
       let gaps = gap c g.rows early in
       let befores = map (row before_kind) (last_of c.before s.since) in
       let rs = g.rows ++ (gaps ++ befores) in
-      let own : (gone_next Match c g l).rows ≡ rs ++ (row match_kind l ∷ []) = match-own ∙ simp append_assoc in
+      let own : (gone_next Match c g l).rows ≡ rs ++ (row match_kind l ∷ []) = match_own ∙ simp append_assoc in
       let most : AtMost (length g.seen) rs =
       at_most_join (length g.seen) g.rows (gaps ++ befores)
       (at_most_more (length a.done) (length g.seen) g.rows (omega (arith, ap length a.seen_is, length-append a.done s.since)) a.at_most)
-      (at_most_join (length g.seen) gaps befores (at_most_break (length g.seen) (contextual c && ltb 0 (length g.rows) && ltb 0 (length early))) late-most)
+      (at_most_join (length g.seen) gaps befores (at_most_break (length g.seen) (contextual c && ltb 0 (length g.rows) && ltb 0 (length early))) late_most)
       in
       let late-are : rowless g.rows (last_of c.before g.seen) ≡ last_of c.before s.since =
-      rw a.seen_is (before-are g.rows a.done s.since (rw a.seen_is at a.numbers) a.at_most c.before a.covered)
+      rw a.seen_is (before_are g.rows a.done s.since (rw a.seen_is at a.numbers) a.at_most c.before a.covered)
       in
       let cover : Covered (rs ++ (row match_kind l ∷ [])) (last_of c.before g.seen) =
       covered_given before_kind g.rows (rs ++ (row match_kind l ∷ [])) (last_of c.before g.seen)
       (λ x e. keeps_left rs (row match_kind l ∷ []) x (keeps_left g.rows (gaps ++ befores) x e))
       (λ x e. keeps_left rs (row match_kind l ∷ []) x (keeps_right g.rows (gaps ++ befores) x (keeps_right gaps befores x (rw late-are at e))))
       in
-      (match-own ∙ rw gap_is, agree_given Match match_kind rs refl refl own most cover)
+      (match_own ∙ rw gap_is, agree_given Match match_kind rs refl refl own most cover)
 
-  step-none : Right NoRow → Step NoRow
+  step_none : Right NoRow → Step NoRow
   unfolding give state_next next_line
-  step-none h =
+  step_none h =
       let l = next_line s len in (
         sym (append-nil g.rows),
         record {
           done = a.done;
           seen_is = rw a.seen_is (append_assoc a.done s.since (l ∷ []));
-          numbers = numbers-next;
+          numbers = numbers_next;
           at_most = a.at_most;
           last_is = a.last_is;
           given_is = a.given_is;
@@ -287,10 +287,10 @@ module _ (c : Settings) (g : Gone) (s : State) (a : Agree c g s) (len : ℕ) whe
       )
 
   step : (f : Fate) → Right f → Step f
-  step Match h = step-match
-  step After h = step-next After after_kind h refl refl refl refl
-  step Other h = step-next Other other_kind h refl refl refl refl
-  step NoRow h = step-none h
+  step Match h = step_match
+  step After h = step_next After after_kind h refl refl refl refl
+  step Other h = step_next Other other_kind h refl refl refl refl
+  step NoRow h = step_none h
 
 -- # All lines
 
@@ -332,7 +332,7 @@ same_on c answers g s l ls a e ih =
     let next = next_line s len in
     let f = fate_of c s answer in
     let rest = placed (s.bytes + len) (s.lines + 1 + 1) ls in
-    let t = step c g s a len f (right c g s a len (selected c s.matches answer) f (fate-case c (selected c s.matches answer) s.after_left)) in
+    let t = step c g s a len f (right c g s a len (selected c s.matches answer) f (fate_case c (selected c s.matches answer) s.after_left)) in
     let later = ih (gone_next f c g next) (state_next f c s len) t.1 in
     let walked : walk c answers g (next ∷ rest) ≡ walk c answers (gone_next f c g next) rest =
     ap (λ (k : Going). walk c answers (go_through k c g next answer) rest) (a.going_is ∙ e)

@@ -16,7 +16,7 @@ use Rattle.definition.specs.Bounds.{allowed, max_input}
 use Rattle.definition.specs.Definition.{limit_reached, selected}
 use Rattle.definition.specs.State.{State, fate_of, state_next}
 use Rattle.definition.specs.Text.{first_length, first_place}
-use Rattle.definition.proofs.Fates.{FateCase, selects, owes, passes, skips, fate-case, selected_below}
+use Rattle.definition.proofs.Fates.{FateCase, selects, owes, passes, skips, fate_case, selected_below}
 use Rattle.driver_core.specs.Answer.{gets_row, state_since, walk_next, walk_of}
 use Rattle.driver_core.specs.declared.Walk.{Walk}
 use Rattle.driver_core.specs.Walk.{WalkAgree, is_on, waits_ahead, walk_start, within_limit}
@@ -76,10 +76,10 @@ owed_next row left since len (inl e) = rw (e, eq-eqb 0 0 refl) (or-true (eqb lef
 owed_next row left since len (inr e) = rw (eq-eqb left 0 e)
 
 module _ (k : Walk) (n ahead len : ℕ) (a : WalkAgree k n ahead) (some : 0 < len) (fits : len ≤ ahead) where
-  agree-stepped : (t : State) (row : Bool) → t.bytes ≡ k.bytes + len → t.lines ≡ k.lines + 1 → t.matches ≤ k.matches + 1
+  agree_stepped : (t : State) (row : Bool) → t.bytes ≡ k.bytes + len → t.lines ≡ k.lines + 1 → t.matches ≤ k.matches + 1
       → within_limit k.settings.limit t.matches ≡ true → t.after_left ≤ k.settings.after → (row ≡ true) ⊎ (t.after_left ≡ 0)
       → WalkAgree (walk_of k.settings t) (since_now row n len) (ahead - len)
-  agree-stepped t row bytes count matches limited left owed =
+  agree_stepped t row bytes count matches limited left owed =
       record {
         set = a.set;
         back = rw bytes (since_most row n len k.bytes a.back);
@@ -92,25 +92,25 @@ module _ (k : Walk) (n ahead len : ℕ) (a : WalkAgree k n ahead) (some : 0 < le
       }
 
   -- the numbers of the definition's step, by what becomes of the line
-  agree-fate : (since : List ℕ) (hit : Bool) (f : Fate) → FateCase k.settings (selected k.settings k.matches hit) k.left f
+  agree_fate : (since : List ℕ) (hit : Bool) (f : Fate) → FateCase k.settings (selected k.settings k.matches hit) k.left f
       → WalkAgree (walk_of k.settings (state_next f k.settings (state_since k since) len)) (since_now (gets_row f) n len) (ahead - len)
   unfolding state_next state_since
-  agree-fate since hit _ (selects e) =
-      agree-stepped (state_next Match k.settings (state_since k since) len) true refl refl (omega arith)
+  agree_fate since hit _ (selects e) =
+      agree_stepped (state_next Match k.settings (state_since k since) len) true refl refl (omega arith)
       (within_next k.settings.limit k.matches (selected_below k.settings k.matches hit e)) (omega arith) (inl refl)
-  agree-fate since hit _ (owes e l) =
-      agree-stepped (state_next After k.settings (state_since k since) len) true refl refl (omega arith) a.limited (omega (arith, a.left_after))
+  agree_fate since hit _ (owes e l) =
+      agree_stepped (state_next After k.settings (state_since k since) len) true refl refl (omega arith) a.limited (omega (arith, a.left_after))
       (inl refl)
-  agree-fate since hit _ (passes e l p) =
-      agree-stepped (state_next Other k.settings (state_since k since) len) true refl refl (omega arith) a.limited a.left_after (inl refl)
-  agree-fate since hit _ (skips e l p) =
-      agree-stepped (state_next NoRow k.settings (state_since k since) len) false refl refl (omega arith) a.limited a.left_after (inr l)
+  agree_fate since hit _ (passes e l p) =
+      agree_stepped (state_next Other k.settings (state_since k since) len) true refl refl (omega arith) a.limited a.left_after (inl refl)
+  agree_fate since hit _ (skips e l p) =
+      agree_stepped (state_next NoRow k.settings (state_since k since) len) false refl refl (omega arith) a.limited a.left_after (inr l)
 
   -- An answered line keeps the list empty.
-  pub agree-next : (since : List ℕ) (hit : Bool)
+  pub agree_next : (since : List ℕ) (hit : Bool)
       → WalkAgree (walk_next k since len hit) (since_now (gets_row (fate_of k.settings (state_since k since) hit)) n len) (ahead - len)
   unfolding walk_next fate_of state_since
-  agree-next since hit = agree-fate since hit _ (fate-case k.settings (selected k.settings k.matches hit) k.left)
+  agree_next since hit = agree_fate since hit _ (fate_case k.settings (selected k.settings k.matches hit) k.left)
 
 -- # The waiting line
 

@@ -17,13 +17,13 @@ use Rattle.driving.specs.Door.{door_fed}
 -- # Offered
 
 module _ (s : Session) (o : OfferOutcome) (r : Offered) (e : r ≡ door_offered o) where
-  pub by-refused : (r.refusal ≡ 0 → ⊥) → door_fed (stays s (Refuses r.refusal)) ≡ door_fed (fed_by s o)
+  pub by_refused : (r.refusal ≡ 0 → ⊥) → door_fed (stays s (Refuses r.refusal)) ≡ door_fed (fed_by s o)
   unfolding door_offered
-  by-refused h = rw (e, ne_eqb o.refusal 0 (rw e at h))
+  by_refused h = rw (e, ne_eqb o.refusal 0 (rw e at h))
 
-  pub by-served : r.refusal ≡ 0 → record { searcher = r.searcher; taken = r.taken; next = Goes } ≡ door_fed (fed_by s o)
+  pub by_served : r.refusal ≡ 0 → record { searcher = r.searcher; taken = r.taken; next = Goes } ≡ door_fed (fed_by s o)
   unfolding door_offered
-  by-served h = rw (e, eq-eqb o.refusal 0 (rw e at h))
+  by_served h = rw (e, eq-eqb o.refusal 0 (rw e at h))
 
 -- # Told of the end
 
@@ -32,31 +32,31 @@ module _ (s : Session) (r : Told) (e : r ≡ door_told (told s)) where
   unfolding door_told fed_end
   end_refused h = rw (e, ne_eqb (told s).refusal 0 (rw e at h))
 
-  pub end-served : r.refusal ≡ 0 → record { searcher = r.searcher; taken = 0; next = Goes } ≡ door_fed (fed_end s)
+  pub end_served : r.refusal ≡ 0 → record { searcher = r.searcher; taken = 0; next = Goes } ≡ door_fed (fed_end s)
   unfolding door_told fed_end
-  end-served h = rw (e, eq-eqb (told s).refusal 0 (rw e at h))
+  end_served h = rw (e, eq-eqb (told s).refusal 0 (rw e at h))
 
 -- # Fed
 
 module _ (s : Session) (refusal : ℕ) (w piece : List ℕ) where
-  pub fed-refused : (refusal ≡ 6 → ⊥)
+  pub fed_refused : (refusal ≡ 6 → ⊥)
       → (door_fed (stays s (Refuses refusal)) ≡ door_fed (fed s refusal w piece)) × (w ≡ fed_window s refusal w piece)
   unfolding fed fed_window
-  fed-refused h = (rw (ne_eqb refusal 6 h), rw (ne_eqb refusal 6 h))
+  fed_refused h = (rw (ne_eqb refusal 6 h), rw (ne_eqb refusal 6 h))
 
-  pub fed-ends : refusal ≡ 6 → (recorded s).refusal ≡ 0
+  pub fed_ends : refusal ≡ 6 → (recorded s).refusal ≡ 0
       → (door_fed (stays s (Ends (recorded s).end)) ≡ door_fed (fed s refusal w piece)) × (w ≡ fed_window s refusal w piece)
   unfolding fed fed_window
-  fed-ends h e = (rw (eq-eqb refusal 6 h, eq-eqb (recorded s).refusal 0 e), rw (eq-eqb refusal 6 h, eq-eqb (recorded s).refusal 0 e))
+  fed_ends h e = (rw (eq-eqb refusal 6 h, eq-eqb (recorded s).refusal 0 e), rw (eq-eqb refusal 6 h, eq-eqb (recorded s).refusal 0 e))
 
-  pub fed-wants : refusal ≡ 6 → ((recorded s).refusal ≡ 0 → ⊥) → length piece ≡ 0
+  pub fed_wants : refusal ≡ 6 → ((recorded s).refusal ≡ 0 → ⊥) → length piece ≡ 0
       → (door_fed (stays s Wants) ≡ door_fed (fed s refusal w piece)) × (w ≡ fed_window s refusal w piece)
   unfolding fed fed_window
-  fed-wants h e n =
+  fed_wants h e n =
       (rw (eq-eqb refusal 6 h, ne_eqb (recorded s).refusal 0 e, eq-eqb (length piece) 0 n), rw (eq-eqb refusal 6 h, ne_eqb (recorded s).refusal 0 e, eq-eqb (length piece) 0 n))
 
-  pub fed-offers : refusal ≡ 6 → ((recorded s).refusal ≡ 0 → ⊥) → (length piece ≡ 0 → ⊥)
+  pub fed_offers : refusal ≡ 6 → ((recorded s).refusal ≡ 0 → ⊥) → (length piece ≡ 0 → ⊥)
       → (door_fed (fed_by s (offered s w piece)) ≡ door_fed (fed s refusal w piece)) × (offered_window s w piece ≡ fed_window s refusal w piece)
   unfolding fed fed_window
-  fed-offers h e n =
+  fed_offers h e n =
       (rw (eq-eqb refusal 6 h, ne_eqb (recorded s).refusal 0 e, ne_eqb (length piece) 0 n), rw (eq-eqb refusal 6 h, ne_eqb (recorded s).refusal 0 e, ne_eqb (length piece) 0 n))

@@ -16,7 +16,7 @@ use Rattle.driver_core.specs.declared.Walk.{Walk}
 use Rattle.driver_core.specs.Answer.{AnswerDecision, AnswerRefused, Give, answering_since, before_rows, below_one_since, given, given_by, given_table, given_table_by, put_rows, rows_since, state_since}
 use Rattle.driver_core.proofs.Back.{back_from_last, back_from_placed, length_back_from}
 use Rattle.match_rows.specs.MatchTable.{before_of, break_table, gap_before, line_row, match_table}
-use Rattle.match_rows.proofs.Laws.{before-lines, from_le, lines-size, over}
+use Rattle.match_rows.proofs.Laws.{before_lines, from_le, lines_size, over}
 use Rattle.giving.specs.Fated.{fated_decision, fated_given, fated_given_by, fated_rows, fated_table, fated_table_by, line_given, line_table, refused_by, served_by}
 
 -- # By what becomes of the line
@@ -29,26 +29,26 @@ module _ (k : Walk) (since : List ℕ) (len : ℕ) (hit : Bool) where
   unfolding rows_since fated_rows
   rows_are = refl
 
-  decision-is : (table : ℕ) → answering_since k since len table hit ≡ fated_decision fateHere k since len table
+  decision_is : (table : ℕ) → answering_since k since len table hit ≡ fated_decision fateHere k since len table
   unfolding answering_since fated_decision below_one_since rows_since fated_rows
-  decision-is table = refl
+  decision_is table = refl
 
   given_by_lem : (o : AnswerDecision) → given_by o k since len hit ≡ fated_given_by o fateHere k since len
   given_by_lem (AnswerRefused n) = refl
   given_by_lem Give = rw rows_are
 
-  table-by : (o : AnswerDecision) (table : List ℕ) → given_table_by o k since len table hit ≡ fated_table_by o fateHere k since len table
-  table-by (AnswerRefused n) table = refl
-  table-by Give table = ap (λ rows. put_rows rows table) rows_are
+  table_by : (o : AnswerDecision) (table : List ℕ) → given_table_by o k since len table hit ≡ fated_table_by o fateHere k since len table
+  table_by (AnswerRefused n) table = refl
+  table_by Give table = ap (λ rows. put_rows rows table) rows_are
 
   -- by its fate, once that is known
-  pub given-as : (f : Fate) (table : List ℕ) → fateHere ≡ f
+  pub given_as : (f : Fate) (table : List ℕ) → fateHere ≡ f
       → (fated_given f k since len (length table) ≡ given k since len table hit) × (fated_table f k since len table ≡ given_table k since len table hit)
   unfolding given given_table fated_given fated_table
-  given-as f table h = (
-    sym (given_by_lem (answering_since k since len (length table) hit) ∙ ap (λ o. fated_given_by o fateHere k since len) (decision-is (length table))
+  given_as f table h = (
+    sym (given_by_lem (answering_since k since len (length table) hit) ∙ ap (λ o. fated_given_by o fateHere k since len) (decision_is (length table))
         ∙ ap (λ g. fated_given g k since len (length table)) h),
-    sym (table-by (answering_since k since len (length table) hit) table ∙ ap (λ o. fated_table_by o fateHere k since len table) (decision-is (length table))
+    sym (table_by (answering_since k since len (length table) hit) table ∙ ap (λ o. fated_table_by o fateHere k since len table) (decision_is (length table))
         ∙ ap (λ g. fated_table g k since len table) h),
   )
 
@@ -82,21 +82,21 @@ one_flat r = append-nil (flat r)
 module _ (f : Fate) (kind : ℕ) (k : Walk) (since : List ℕ) (len : ℕ)
     (none : before_rows f k.settings (state_since k since) ≡ 0)
     (one : fated_rows f k since len ≡ line_row kind k len ∷ []) where
-  line-decision : (table : ℕ) → fated_decision f k since len table ≡ cond (ltb table row_size) (AnswerRefused 4) Give
+  line_decision : (table : ℕ) → fated_decision f k since len table ≡ cond (ltb table row_size) (AnswerRefused 4) Give
   unfolding fated_decision
-  line-decision table = rw (none, le-ltb k.lines 0 (omega arith), one)
+  line_decision table = rw (none, le-ltb k.lines 0 (omega arith), one)
 
-  pub line-given : (table : ℕ) → line_given f table ≡ fated_given f k since len table
+  pub line_given_lem : (table : ℕ) → line_given f table ≡ fated_given f k since len table
   unfolding line_given fated_given
-  line-given table = rw (line-decision table) (go (ltb table row_size))
+  line_given_lem table = rw (line_decision table) (go (ltb table row_size))
     where
       go : (b : Bool) → cond b (refused_by 4) (served_by f 1) ≡ fated_given_by (cond b (AnswerRefused 4) Give) f k since len
       go true = refl
       go false = ap (λ rows. served_by f (length rows)) (sym one)
 
-  pub line-table : (table : List ℕ) → line_table (line_row kind k len) table ≡ fated_table f k since len table
+  pub line_table_lem : (table : List ℕ) → line_table (line_row kind k len) table ≡ fated_table f k since len table
   unfolding line_table fated_table
-  line-table table = rw (line-decision (length table)) (go (ltb (length table) row_size))
+  line_table_lem table = rw (line_decision (length table)) (go (ltb (length table) row_size))
     where
       go : (b : Bool) → cond b table (put_at 0 (flat (line_row kind k len)) table) ≡ fated_table_by (cond b (AnswerRefused 4) Give) f k since len table
       go true = refl
@@ -157,44 +157,44 @@ module _ (k : Walk) (since : List ℕ) where
   abbrev gaps : List Row
   gaps = breaks k.settings (state_since k since)
 
-  gap-cases : (b : Bool) (table : List ℕ)
+  gap_cases : (b : Bool) (table : List ℕ)
       → (cond b 1 0 ≡ length (cond b (break ∷ []) []))
       × (cond (ltb 0 (cond b 1 0)) (put_at 0 (flat break) table) table ≡ put_at 0 (flatten (map flat (cond b (break ∷ []) []))) table)
   unfolding flatten
-  gap-cases true table = (refl, refl)
-  gap-cases false table = (refl, sym (put_at_none 0 table))
+  gap_cases true table = (refl, refl)
+  gap_cases false table = (refl, sym (put_at_none 0 table))
 
   abbrev gapped : Bool
   gapped = contextual k.settings && (state_since k since).given && ltb k.settings.before (length (state_since k since).since)
 
-  gap-test : (contextual k.settings && k.given && ltb 0 from) ≡ gapped
+  gap_test : (contextual k.settings && k.given && ltb 0 from) ≡ gapped
   unfolding state_since
-  gap-test = ap (λ b. contextual k.settings && k.given && b) (over k since ∙ ap (ltb k.settings.before) (sym (length_back_from k.bytes (k.lines + 1) all)))
+  gap_test = ap (λ b. contextual k.settings && k.given && b) (over k since ∙ ap (ltb k.settings.before) (sym (length_back_from k.bytes (k.lines + 1) all)))
 
-  gap-count : gap_before k from ≡ length gaps
+  gap_count : gap_before k from ≡ length gaps
   unfolding gap_before breaks
-  gap-count = rw gap-test (gap-cases gapped []).0
+  gap_count = rw gap_test (gap_cases gapped []).0
 
-  gap-table : (table : List ℕ) → break_table (gap_before k from) table ≡ put_at 0 (flatten (map flat gaps)) table
+  gap_table : (table : List ℕ) → break_table (gap_before k from) table ≡ put_at 0 (flatten (map flat gaps)) table
   unfolding break_table gap_before breaks
-  gap-table table = rw gap-test (gap-cases gapped table).1
+  gap_table table = rw gap_test (gap_cases gapped table).1
 
   abbrev befores : List Row
   befores = map (row before_kind) (last_of k.settings.before (state_since k since).since)
 
-  befores-count : length befores ≡ count
-  befores-count = length-map (last_of k.settings.before (state_since k since).since) (row before_kind) ∙ count_is
+  befores_count : length befores ≡ count
+  befores_count = length-map (last_of k.settings.before (state_since k since).since) (row before_kind) ∙ count_is
 
   -- where the numbers stay at 0 or above, lines numbered back are lines numbered on from the first of them
-  befores-numbers : length since ≤ k.bytes → count ≤ k.lines
+  befores_numbers : length since ≤ k.bytes → count ≤ k.lines
       → flatten (map flat befores)
       ≡ before_numbers k.settings.terminator (k.bytes - (length since - from)) (k.lines + 1 - count) (part from (length since) since)
   unfolding before_numbers state_since
-  befores-numbers b n =
-      let on = back_from_placed k.bytes (k.lines + 1) before (omega (arith, from_le k since)) (omega (arith, lines-size k since)) in
+  befores_numbers b n =
+      let on = back_from_placed k.bytes (k.lines + 1) before (omega (arith, from_le k since)) (omega (arith, lines_size k since)) in
       ap (λ ls. flatten (map flat (map (row before_kind) ls)))
-      (back_from_last k.settings.before k.bytes (k.lines + 1) all ∙ rw ((from_le k since).1, lines-size k since) at on)
-      ∙ ap (λ ls. flatten (map flat (map (row before_kind) (placed (k.bytes - (length since - from)) (k.lines + 1 - count) ls)))) (sym (before-lines k since))
+      (back_from_last k.settings.before k.bytes (k.lines + 1) all ∙ rw ((from_le k since).1, lines_size k since) at on)
+      ∙ ap (λ ls. flatten (map flat (map (row before_kind) (placed (k.bytes - (length since - from)) (k.lines + 1 - count) ls)))) (sym (before_lines k since))
 
   abbrev total : ℕ
   total = gap_before k from + count + 1
@@ -203,56 +203,56 @@ module _ (k : Walk) (since : List ℕ) where
     abbrev own : Row
     own = row match_kind (next_line (state_since k since) len)
 
-    rows-count : length (fated_rows Match k since len) ≡ total
+    rows_count : length (fated_rows Match k since len) ≡ total
     unfolding fated_rows
-    rows-count = omega (arith, gap-count, befores-count, length-append gaps (befores ++ (own ∷ [])), length-append befores (own ∷ []))
+    rows_count = omega (arith, gap_count, befores_count, length-append gaps (befores ++ (own ∷ [])), length-append befores (own ∷ []))
 
-    match-table : (table : List ℕ) → length since ≤ k.bytes → count ≤ k.lines → row_size * total ≤ length table
+    match_table_lem : (table : List ℕ) → length since ≤ k.bytes → count ≤ k.lines → row_size * total ≤ length table
         → match_table k since len (before_of k since) (gap_before k from) table ≡ put_rows (fated_rows Match k since len) table
     unfolding match_table fated_rows line_row next_line state_since
-    match-table table b n room =
+    match_table_lem table b n room =
         let first = flatten (map flat gaps) in
         let second = flatten (map flat befores) in
-        let first-size : length first ≡ row_size * gap_before k from = flats_length gaps ∙ ap (λ j. row_size * j) (sym gap-count) in
-        let second-size : length second ≡ row_size * count = flats_length befores ∙ ap (λ j. row_size * j) befores-count in
+        let first-size : length first ≡ row_size * gap_before k from = flats_length gaps ∙ ap (λ j. row_size * j) (sym gap_count) in
+        let second-size : length second ≡ row_size * count = flats_length befores ∙ ap (λ j. row_size * j) befores_count in
         let joined : flatten (map flat (gaps ++ (befores ++ (own ∷ [])))) ≡ first ++ (second ++ flat own) =
         flats_append gaps (befores ++ (own ∷ []))
         ∙ ap (λ xs. first ++ xs) (flats_append befores (own ∷ []) ∙ ap (λ xs. second ++ xs) (one_flat own))
         in
-        rw (gap-table table, sym (befores-numbers b n))
+        rw (gap_table table, sym (befores_numbers b n))
         (three first second (flat own) table (row_size * gap_before k from) (row_size * count) first-size second-size (omega (arith, room))
         ∙ sym (ap (λ xs. put_at 0 xs table) joined)
         ∙ sym (put_rows_lem (gaps ++ (befores ++ (own ∷ []))) table))
 
-    match-decision : (table : ℕ)
+    match_decision : (table : ℕ)
         → fated_decision Match k since len table
         ≡ cond (ltb k.lines count) (AnswerRefused 6) (cond (ltb table (row_size * total)) (AnswerRefused 4) Give)
     unfolding fated_decision
-    match-decision table = rw (count_is, rows-count)
+    match_decision table = rw (count_is, rows_count)
 
     -- the three ends of a match
-    pub match-below : (table : List ℕ) → k.lines < count
+    pub match_below : (table : List ℕ) → k.lines < count
         → (refused_by 6 ≡ fated_given Match k since len (length table)) × (table ≡ fated_table Match k since len table)
     unfolding fated_given fated_table
-    match-below table few =
-        let is : fated_decision Match k since len (length table) ≡ AnswerRefused 6 = rw (match-decision (length table), lt-ltb k.lines count few) in
+    match_below table few =
+        let is : fated_decision Match k since len (length table) ≡ AnswerRefused 6 = rw (match_decision (length table), lt-ltb k.lines count few) in
         (rw is, rw is)
 
-    pub match-few : (table : List ℕ) → count ≤ k.lines → length table < row_size * total
+    pub match_few : (table : List ℕ) → count ≤ k.lines → length table < row_size * total
         → (refused_by 4 ≡ fated_given Match k since len (length table)) × (table ≡ fated_table Match k since len table)
     unfolding fated_given fated_table
-    match-few table n short =
+    match_few table n short =
         let is : fated_decision Match k since len (length table) ≡ AnswerRefused 4 =
-        rw (match-decision (length table), le-ltb k.lines count n, lt-ltb (length table) (row_size * total) short)
+        rw (match_decision (length table), le-ltb k.lines count n, lt-ltb (length table) (row_size * total) short)
         in
         (rw is, rw is)
 
-    pub match-gives : (table : List ℕ) → length since ≤ k.bytes → count ≤ k.lines → row_size * total ≤ length table
+    pub match_gives : (table : List ℕ) → length since ≤ k.bytes → count ≤ k.lines → row_size * total ≤ length table
         → (served_by Match total ≡ fated_given Match k since len (length table))
         × (match_table k since len (before_of k since) (gap_before k from) table ≡ fated_table Match k since len table)
     unfolding fated_given fated_table
-    match-gives table b n room =
+    match_gives table b n room =
         let is : fated_decision Match k since len (length table) ≡ Give =
-        rw (match-decision (length table), le-ltb k.lines count n, le-ltb (length table) (row_size * total) room)
+        rw (match_decision (length table), le-ltb k.lines count n, le-ltb (length table) (row_size * total) room)
         in
-        (rw is (ap (λ m. served_by Match m) (sym rows-count)), rw is (match-table table b n room))
+        (rw is (ap (λ m. served_by Match m) (sym rows_count)), rw is (match_table_lem table b n room))

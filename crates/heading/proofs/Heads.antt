@@ -34,7 +34,7 @@ use Rattle.search_machine.specs.Search.{asks, search, state_at, turn_of}
 use Rattle.search_machine.specs.Standing.{HeadReady, OpenedTo, Ready, Turned, begun_with, opened_with, over_with, refused, seen, served, wanting_with}
 use Rattle.printing.specs.Texts.{newline, refused_text}
 use Rattle.search_machine.proofs.Places.{same_state, tells_within, part_rolled, part_take}
-use Rattle.machine.proofs.Leads.{closes-ends, leads_goes, leads-none}
+use Rattle.machine.proofs.Leads.{closes_ends, leads_goes, leads_none}
 
 -- # How a line stands
 
@@ -60,44 +60,44 @@ looked_few xs h = subst (λ k. Stands k xs) (sym h) (looked xs)
 -- # Opening
 
 module _ (s : Search) (o : OpenOutcome) (from : ℕ) (out : List ℕ) (q : Opened) (e : q ≡ door_opened o) where
-  pub opened-served : q.refusal ≡ 0 → OpenedTo s o from out (opened_with s q.searcher from) out
+  pub opened_served : q.refusal ≡ 0 → OpenedTo s o from out (opened_with s q.searcher from) out
   unfolding door_opened
-  opened-served h = served (rw e at h) (rw e) refl
+  opened_served h = served (rw e at h) (rw e) refl
 
-  pub opened-refused : (q.refusal ≡ 0 → ⊥) → (p : Pending) (r : Search) (after : List ℕ) → r ≡ over_with s p
+  pub opened_refused : (q.refusal ≡ 0 → ⊥) → (p : Pending) (r : Search) (after : List ℕ) → r ≡ over_with s p
       → Tells s.pending out (refused_text q.refusal) p after
       → OpenedTo s o from out r after
   unfolding door_opened
-  opened-refused h p r after d t = refused p (rw e at h) d (rw e at t)
+  opened_refused h p r after d t = refused p (rw e at h) d (rw e at t)
 
 -- # The turn
 
 module _ (stage : Stage) (l : List ℕ) (s : Session) (w rest : List ℕ) where
-  pub first-asks : (n : ℕ) (asked : Asked) → stage ≡ First → Whole n ≡ looked_at rest → asked ≡ asked_of (take n rest)
+  pub first_asks : (n : ℕ) (asked : Asked) → stage ≡ First → Whole n ≡ looked_at rest → asked ≡ asked_of (take n rest)
       → turn_of (state_at stage l s w rest) ≡ asks asked l w (drop (n + 1) rest)
   unfolding turn_of
-  first-asks n asked e h k = rw (e, sym h, k)
+  first_asks n asked e h k = rw (e, sym h, k)
 
-  pub first-unfinished : stage ≡ First → Unfinished ≡ looked_at rest → turn_of (state_at stage l s w rest) ≡ wants (state_at stage l s w rest)
+  pub first_unfinished : stage ≡ First → Unfinished ≡ looked_at rest → turn_of (state_at stage l s w rest) ≡ wants (state_at stage l s w rest)
   unfolding turn_of
-  first-unfinished e h = rw (e, sym h)
+  first_unfinished e h = rw (e, sym h)
 
-  pub first-long : stage ≡ First → TooLong ≡ looked_at rest → turn_of (state_at stage l s w rest) ≡ ends (refused_text 1)
+  pub first_long : stage ≡ First → TooLong ≡ looked_at rest → turn_of (state_at stage l s w rest) ≡ ends (refused_text 1)
   unfolding turn_of
-  first-long e h = rw (e, sym h)
+  first_long e h = rw (e, sym h)
 
-  pub second-whole : (n : ℕ) → stage ≡ Second → Whole n ≡ looked_at rest
+  pub second_whole : (n : ℕ) → stage ≡ Second → Whole n ≡ looked_at rest
       → turn_of (state_at stage l s w rest) ≡ goes [] (state_at Text (take n rest) s w (drop (n + 1) rest))
   unfolding turn_of
-  second-whole n e h = rw (e, sym h)
+  second_whole n e h = rw (e, sym h)
 
-  pub second-unfinished : stage ≡ Second → Unfinished ≡ looked_at rest → turn_of (state_at stage l s w rest) ≡ wants (state_at stage l s w rest)
+  pub second_unfinished : stage ≡ Second → Unfinished ≡ looked_at rest → turn_of (state_at stage l s w rest) ≡ wants (state_at stage l s w rest)
   unfolding turn_of
-  second-unfinished e h = rw (e, sym h)
+  second_unfinished e h = rw (e, sym h)
 
-  pub second-long : stage ≡ Second → TooLong ≡ looked_at rest → turn_of (state_at stage l s w rest) ≡ ends (refused_text 1)
+  pub second_long : stage ≡ Second → TooLong ≡ looked_at rest → turn_of (state_at stage l s w rest) ≡ ends (refused_text 1)
   unfolding turn_of
-  second-long e h = rw (e, sym h)
+  second_long e h = rw (e, sym h)
 
 pub asks_served : (c : Settings) (l w rest : List ℕ) → (opened c (length w)).refusal ≡ 0
     → asks (For c) l w rest ≡ goes [] (state_at Second l (opened c (length w)).session w rest)
@@ -117,31 +117,31 @@ module _ (s : Search) (w literal input out : List ℕ) (ready : HeadReady s lite
   nothing_yet = ap (λ n. take n out) ready.nothing.none
 
   -- over, with a text printed
-  pub once-over : (text : List ℕ) → turn_of (seen s w literal input) ≡ ends text → (p : Pending) (after : List ℕ)
+  pub once_over : (text : List ℕ) → turn_of (seen s w literal input) ≡ ends text → (p : Pending) (after : List ℕ)
       → Tells s.pending out text p after
       → Turned (seen s w literal input) (over_with s p) w literal input after
-  once-over text e p after t =
+  once_over text e p after t =
       let st = seen s w literal input in
       record {
         count = 0 + 1;
-        does = rw (t.text_is, nothing_yet) (closes-ends search 0 st [] st text (leads-none search st) e);
+        does = rw (t.text_is, nothing_yet) (closes_ends search 0 st [] st text (leads_none search st) e);
         room = tt;
         placed = record { literal_in = ready.placed.literal_in; from_to = ready.placed.from_to; to_in = ready.placed.to_in };
         collects = record { within = tells_within (omega (arith, ready.nothing)) t; kept = t.lost_is ∙ ready.nothing.kept };
       }
 
   -- a read is wanted, and what is left moves to the front
-  pub once-wants : turn_of (seen s w literal input) ≡ wants (seen s w literal input) → length (part s.from s.to input) ≤ longest
+  pub once_wants : turn_of (seen s w literal input) ≡ wants (seen s w literal input) → length (part s.from s.to input) ≤ longest
       → (rest : List ℕ) → rest ≡ rolled s.from s.to input → length rest ≡ length input
       → Turned (seen s w literal input) (wanting_with s) w literal rest out
-  once-wants e few rest d size =
+  once_wants e few rest d size =
       let st = seen s w literal input in
       let placed = ready.placed in
       let rest-is : part 0 (s.to - s.from) rest ≡ part s.from s.to input = ap (λ xs. part 0 (s.to - s.from) xs) d ∙ part_rolled s.from s.to input placed.from_to placed.to_in in
       let same = same_state s.stage (take s.size literal) {s = s.searcher.session} {w = w} refl refl rest-is in
       record {
         count = 0;
-        does = rw (nothing_yet, same) (leads-none search st, e);
+        does = rw (nothing_yet, same) (leads_none search st, e);
         room = omega (arith, ready.input_room, part_length s.from s.to input placed.from_to placed.to_in);
         placed = record { literal_in = placed.literal_in; from_to = omega arith; to_in = omega arith };
         collects = record { within = omega (arith, ready.nothing); kept = ready.nothing.kept };
@@ -160,27 +160,27 @@ module _ (s : Search) (w literal input out : List ℕ) (ready : HeadReady s lite
       part_drop s.from s.to (n + 1) input ∙ ap (λ from. part from s.to input) e
 
   -- the first line was read
-  pub once-opened : (n : ℕ) (c : Settings) → s.stage ≡ First → Whole n ≡ looked_at (part s.from s.to input) → For c ≡ asked_of (take n (part s.from s.to input))
+  pub once_opened : (n : ℕ) (c : Settings) → s.stage ≡ First → Whole n ≡ looked_at (part s.from s.to input) → For c ≡ asked_of (take n (part s.from s.to input))
       → (r : Search) (after : List ℕ) → OpenedTo s (opened c (length w)) (s.from + n + 1) out r after
       → Turned (seen s w literal input) r w literal input after
-  once-opened n c e h k r after (served z d f) =
-      let turn = first-asks s.stage (take s.size literal) s.searcher.session w (part s.from s.to input) n (For c) e h k ∙ asks_served c (take s.size literal) w (drop (n + 1) (part s.from s.to input)) z in
+  once_opened n c e h k r after (served z d f) =
+      let turn = first_asks s.stage (take s.size literal) s.searcher.session w (part s.from s.to input) n (For c) e h k ∙ asks_served c (take s.size literal) w (drop (n + 1) (part s.from s.to input)) z in
       rw (d, f) (record {
         count = 0 + 1;
-        does = (omega arith, rw (nothing_yet, sym (behind n)) (leads_goes search 0 (seen s w literal input) [] (seen s w literal input) [] _ (leads-none search (seen s w literal input)) turn));
+        does = (omega arith, rw (nothing_yet, sym (behind n)) (leads_goes search 0 (seen s w literal input) [] (seen s w literal input) [] _ (leads_none search (seen s w literal input)) turn));
         room = tt;
         placed = record { literal_in = ready.placed.literal_in; from_to = omega (arith, inside n h); to_in = ready.placed.to_in };
         collects = record { within = omega (arith, ready.nothing); kept = ready.nothing.kept };
       })
-  once-opened n c e h k r after (refused p z d t) =
-      let turn = first-asks s.stage (take s.size literal) s.searcher.session w (part s.from s.to input) n (For c) e h k ∙ asks_refused c (take s.size literal) w (drop (n + 1) (part s.from s.to input)) z in
-      rw d (once-over (refused_text (opened c (length w)).refusal) turn p after t)
+  once_opened n c e h k r after (refused p z d t) =
+      let turn = first_asks s.stage (take s.size literal) s.searcher.session w (part s.from s.to input) n (For c) e h k ∙ asks_refused c (take s.size literal) w (drop (n + 1) (part s.from s.to input)) z in
+      rw d (once_over (refused_text (opened c (length w)).refusal) turn p after t)
 
   -- the second line was read
-  pub once-begun : (n : ℕ) (pair : Pair) → s.stage ≡ Second → Whole n ≡ looked_at (part s.from s.to input)
+  pub once_begun : (n : ℕ) (pair : Pair) → s.stage ≡ Second → Whole n ≡ looked_at (part s.from s.to input)
       → (after : List ℕ) → after ≡ part s.from (s.from + n) input ++ drop (length (part s.from (s.from + n) input)) literal
       → Turned (seen s w literal input) (begun_with s n pair (s.from + n + 1)) w after input out
-  once-begun n pair e h after d =
+  once_begun n pair e h after d =
       let st = seen s w literal input in
       let rest = part s.from s.to input in
       let line = part s.from (s.from + n) input in
@@ -188,7 +188,7 @@ module _ (s : Search) (w literal input out : List ℕ) (ready : HeadReady s lite
       let literal-is : take n after ≡ take n rest = ap (λ xs. take n xs) d ∙ take_at line (drop (length line) literal) n size ∙ part_take s.from s.to n input (omega (arith, inside n h)) in
       record {
         count = 0 + 1;
-        does = (omega arith, rw (nothing_yet, literal-is, sym (behind n)) (leads_goes search 0 st [] st [] _ (leads-none search st) (second-whole s.stage (take s.size literal) s.searcher.session w rest n e h)));
+        does = (omega arith, rw (nothing_yet, literal-is, sym (behind n)) (leads_goes search 0 st [] st [] _ (leads_none search st) (second_whole s.stage (take s.size literal) s.searcher.session w rest n e h)));
         room = tt;
         placed = record { literal_in = (inside n h).0; from_to = omega (arith, inside n h); to_in = ready.placed.to_in };
         collects = record { within = omega (arith, ready.nothing); kept = ready.nothing.kept };

@@ -82,7 +82,8 @@ pub fn second(
     match look(&input[from..to]) {
         Seen::Whole(length) => {
             let end = from + length;
-            literal[..length].copy_from_slice(&input[from..end]);
+            let text = &input[from..end];
+            literal[..length].copy_from_slice(text);
             standing::begun(s, length, rare_bytes::choose(&literal[..length]), end + 1)
         }
         Seen::Unfinished => standing::wanting(s, input),

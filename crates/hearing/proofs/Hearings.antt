@@ -54,18 +54,18 @@ module _ (stage : Stage) (l : List ℕ) (s : Session) (w rest : List ℕ) where
   unfolding hears_of
   second_ended e = rw e
 
-  module _ (in_text_lem : stage ≡ Text) (f : Fed) (e : f ≡ door_fed (fed_end s)) where
-    pub text-goes : f.next ≡ Goes → hears_of ended (state_at stage l s w rest) ≡ goes [] (state_at stage l f.searcher.session w rest)
+  module _ (in_text : stage ≡ Text) (f : Fed) (e : f ≡ door_fed (fed_end s)) where
+    pub text_goes : f.next ≡ Goes → hears_of ended (state_at stage l s w rest) ≡ goes [] (state_at stage l f.searcher.session w rest)
     unfolding hears_of
-    text-goes n = rw (in_text_lem, e, sym (ap (λ x. x.next) e) ∙ n)
+    text_goes n = rw (in_text, e, sym (ap (λ x. x.next) e) ∙ n)
 
-    pub text-refuses : (k : ℕ) → f.next ≡ Refuses k → hears_of ended (state_at stage l s w rest) ≡ ends (refused_text k)
+    pub text_refuses : (k : ℕ) → f.next ≡ Refuses k → hears_of ended (state_at stage l s w rest) ≡ ends (refused_text k)
     unfolding hears_of
-    text-refuses k n = rw (in_text_lem, sym (ap (λ x. x.next) e) ∙ n)
+    text_refuses k n = rw (in_text, sym (ap (λ x. x.next) e) ∙ n)
 
-    pub text-ends : (end : End) → f.next ≡ Ends end → hears_of ended (state_at stage l s w rest) ≡ ends (end_text end)
+    pub text_ends : (end : End) → f.next ≡ Ends end → hears_of ended (state_at stage l s w rest) ≡ ends (end_text end)
     unfolding hears_of
-    text-ends end n = rw (in_text_lem, sym (ap (λ x. x.next) e) ∙ n)
+    text_ends end n = rw (in_text, sym (ap (λ x. x.next) e) ∙ n)
 
 -- once the end is told, no more is wanted
 pub told_wants : (s : Session) (f : Fed) → f ≡ door_fed (fed_end s) → f.next ≡ Wants → ⊥
@@ -86,10 +86,10 @@ module _ (s : Search) (got : Moved) (w literal input out : List ℕ) (hearing : 
   nothing_yet : take s.pending.length out ≡ []
   nothing_yet = ap (λ n. take n out) hearing.nothing.none
 
-  pub heard-over : (text : List ℕ) → heard_as got s.to input (seen s w literal input) ≡ ends text → (p : Pending) (after : List ℕ)
+  pub heard_over : (text : List ℕ) → heard_as got s.to input (seen s w literal input) ≡ ends text → (p : Pending) (after : List ℕ)
       → Tells s.pending out text p after
       → Heard s got w literal input (over_with s p) after
-  heard-over text e p after t =
+  heard_over text e p after t =
       record {
         hears = rw (t.text_is, nothing_yet) e;
         room = tt;
@@ -98,9 +98,9 @@ module _ (s : Search) (got : Moved) (w literal input out : List ℕ) (hearing : 
       }
 
 module _ (s : Search) (w literal input out : List ℕ) where
-  pub heard-told : (f : Fed) → Hearing s Nothing input out → hears_of ended (seen s w literal input) ≡ goes [] (state_at s.stage (take s.size literal) f.searcher.session w (part s.from s.to input))
+  pub heard_told : (f : Fed) → Hearing s Nothing input out → hears_of ended (seen s w literal input) ≡ goes [] (state_at s.stage (take s.size literal) f.searcher.session w (part s.from s.to input))
       → Heard s Nothing w literal input (going_with s f.searcher s.from s.pending) out
-  heard-told f hearing e =
+  heard_told f hearing e =
       record {
         hears = rw (nothing_yet s Nothing w literal input out hearing) e;
         room = tt;
@@ -108,8 +108,8 @@ module _ (s : Search) (w literal input out : List ℕ) where
         collects = record { within = omega (arith, hearing.nothing); kept = hearing.nothing.kept };
       }
 
-  pub heard-more : (n : ℕ) → Hearing s (Bytes n) input out → Heard s (Bytes n) w literal input (with_more s n) out
-  heard-more n hearing =
+  pub heard_more : (n : ℕ) → Hearing s (Bytes n) input out → Heard s (Bytes n) w literal input (with_more s n) out
+  heard_more n hearing =
       let placed = hearing.placed in
       let rest = part s.from s.to input in
       let more = part_split s.from s.to (s.to + n) input placed.from_to (omega arith) in
@@ -120,8 +120,8 @@ module _ (s : Search) (w literal input out : List ℕ) where
         collects = record { within = omega (arith, hearing.nothing); kept = hearing.nothing.kept };
       }
 
-  pub heard-again : Hearing s Interrupted input out → Heard s Interrupted w literal input s out
-  heard-again hearing =
+  pub heard_again : Hearing s Interrupted input out → Heard s Interrupted w literal input s out
+  heard_again hearing =
       record {
         hears =
             subst (λ phase. Gives phase (printed s out) (seen s w literal input) (wants (seen s w literal input))) (sym hearing.wanted)
@@ -135,21 +135,21 @@ module _ (s : Search) (w literal input out : List ℕ) where
 
 module _ (s : Search) (got : Moved) (w literal input out : List ℕ) (hearing : Hearing s got input out) where
   -- as it was heard
-  as-heard : (m : Moved) → got ≡ m → Hearing s m input out
-  as-heard m e = subst (λ g. Hearing s g input out) e hearing
+  as_heard : (m : Moved) → got ≡ m → Hearing s m input out
+  as_heard m e = subst (λ g. Hearing s g input out) e hearing
 
-  pub bytes-heard : (n : ℕ) → got ≡ Bytes n → Heard s got w literal input (with_more s n) out
-  bytes-heard n e = subst (λ g. Heard s g w literal input (with_more s n) out) (sym e) (heard-more s w literal input out n (as-heard (Bytes n) e))
+  pub bytes_heard : (n : ℕ) → got ≡ Bytes n → Heard s got w literal input (with_more s n) out
+  bytes_heard n e = subst (λ g. Heard s g w literal input (with_more s n) out) (sym e) (heard_more s w literal input out n (as_heard (Bytes n) e))
 
-  pub end-heard : (r : Search) (after : List ℕ) → got ≡ Nothing → (Hearing s Nothing input out → Heard s Nothing w literal input r after) → Heard s got w literal input r after
-  end-heard r after e h = subst (λ g. Heard s g w literal input r after) (sym e) (h (as-heard Nothing e))
+  pub end_heard : (r : Search) (after : List ℕ) → got ≡ Nothing → (Hearing s Nothing input out → Heard s Nothing w literal input r after) → Heard s got w literal input r after
+  end_heard r after e h = subst (λ g. Heard s g w literal input r after) (sym e) (h (as_heard Nothing e))
 
-  pub signal-heard : got ≡ Interrupted → Heard s got w literal input s out
-  signal-heard e = subst (λ g. Heard s g w literal input s out) (sym e) (heard-again s w literal input out (as-heard Interrupted e))
+  pub signal_heard : got ≡ Interrupted → Heard s got w literal input s out
+  signal_heard e = subst (λ g. Heard s g w literal input s out) (sym e) (heard_again s w literal input out (as_heard Interrupted e))
 
-  pub failure-heard : (reason : ℤ) → got ≡ Failed reason → (p : Pending) (after : List ℕ) → Tells s.pending out failed_read p after
+  pub failure_heard : (reason : ℤ) → got ≡ Failed reason → (p : Pending) (after : List ℕ) → Tells s.pending out failed_read p after
       → Heard s got w literal input (over_with s p) after
-  failure-heard reason e p after t = heard-over s got w literal input out hearing failed_read (ap (λ g. heard_as g s.to input (seen s w literal input)) e ∙ hears_failed s.stage (take s.size literal) s.searcher.session w (part s.from s.to input)) p after t
+  failure_heard reason e p after t = heard_over s got w literal input out hearing failed_read (ap (λ g. heard_as g s.to input (seen s w literal input)) e ∙ hears_failed s.stage (take s.size literal) s.searcher.session w (part s.from s.to input)) p after t
 
-  pub fits-heard : (n : ℕ) → got ≡ Bytes n → s.to + n ≤ length input
-  fits-heard n e = (as-heard (Bytes n) e).fits
+  pub fits_heard : (n : ℕ) → got ≡ Bytes n → s.to + n ≤ length input
+  fits_heard n e = (as_heard (Bytes n) e).fits

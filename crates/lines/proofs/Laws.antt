@@ -15,7 +15,7 @@ use Rattle.definition.specs.Definition.{last_of}
 use Rattle.definition.specs.Text.{first_length, first_place, handed, lines, up_to}
 use Rattle.lines.specs.declared.Found.TheVariants.{At, Nothing}
 use Rattle.lines.specs.Lines.{found, last_start, without_terminator}
-use Rattle.definition.proofs.Lists.{flatten_append, lastOf-append}
+use Rattle.definition.proofs.Lists.{flatten_append, last_of_append}
 use Rattle.definition.proofs.Terminator.{first_le, flatten_last, handed_next, lines_head, lines_only, lines_take, Whole, whole_ended, whole_none, whole_take}
 
 -- # The first place of a byte, looked for from a place on
@@ -71,7 +71,7 @@ snoc_bytes : (n : ℕ) (ls : List (List ℕ)) (l : List ℕ)
 unfolding flatten
 snoc_bytes n ls l =
     let before : suc n - 1 ≡ n = omega arith in
-    let joined : last_of (suc n) (ls ++ (l ∷ [])) ≡ last_of n ls ++ (l ∷ []) = lastOf-append (suc n) ls (l ∷ []) ∙ rw (before, one_last n l) in
+    let joined : last_of (suc n) (ls ++ (l ∷ [])) ≡ last_of n ls ++ (l ∷ []) = last_of_append (suc n) ls (l ∷ []) ∙ rw (before, one_last n l) in
     ap (λ ms. length (flatten ms)) joined
     ∙ ap length (flatten_append (last_of n ls) (l ∷ []) ∙ ap (λ x. flatten (last_of n ls) ++ x) (append-nil l))
     ∙ length-append (flatten (last_of n ls)) l
@@ -95,21 +95,21 @@ single (l ∷ []) h = ap (λ x. x ∷ []) (sym (append-nil l))
 single (l ∷ (m ∷ ls)) h = absurd (omega arith)
 
 module _ (t : ℕ) (xs : List ℕ) (some : 0 < length xs) where
-  lines-some : 0 < length (lines t xs)
-  lines-some = rw (lines_head t xs some) (omega arith)
+  lines_some : 0 < length (lines t xs)
+  lines_some = rw (lines_head t xs some) (omega arith)
 
   -- The last line, and the lines before it.
-  pub last-split : lines t xs ≡ lines t (take (last_start 1 t xs) xs) ++ (drop (last_start 1 t xs) xs ∷ [])
+  pub last_split : lines t xs ≡ lines t (take (last_start 1 t xs) xs) ++ (drop (last_start 1 t xs) xs ∷ [])
   unfolding last_start last_of
-  last-split =
+  last_split =
       let ls = lines t xs in
       let j = length ls - 1 in
       let last = flatten_last 1 t xs in
       let front : lines t (take (length xs - length (flatten (drop j ls))) xs) ≡ take j ls =
-      ap (lines t) last.2 ∙ lines_take j t xs (omega (arith, lines-some))
+      ap (lines t) last.2 ∙ lines_take j t xs (omega (arith, lines_some))
       in
       let back : drop j ls ≡ drop (length xs - length (flatten (drop j ls))) xs ∷ [] =
-      single (drop j ls) (omega (arith, length-drop j ls, lines-some)) ∙ ap (λ x. x ∷ []) (sym last.1)
+      single (drop j ls) (omega (arith, length-drop j ls, lines_some)) ∙ ap (λ x. x ∷ []) (sym last.1)
       in
       sym (take-append-drop j ls) ∙ ap₂ {C = List (List ℕ)} (λ fs bs. fs ++ bs) (sym front) back
 
@@ -118,7 +118,7 @@ module _ (t : ℕ) (xs : List ℕ) (some : 0 < length xs) where
   unfolding last_start
   last_step n =
       let p = last_start 1 t xs in
-      let bytes = ap (λ ls. length (flatten (last_of (suc n) ls))) last-split ∙ snoc_bytes n (lines t (take p xs)) (drop p xs) in
+      let bytes = ap (λ ls. length (flatten (last_of (suc n) ls))) last_split ∙ snoc_bytes n (lines t (take p xs)) (drop p xs) in
       omega (arith, bytes, length-take p xs, length-drop p xs)
 
   -- A text cut anywhere: what follows the last line's start, with what comes after the cut, falls into the other lines.
@@ -127,7 +127,7 @@ module _ (t : ℕ) (xs : List ℕ) (some : 0 < length xs) where
   lines_cut ys =
       let j = length (lines t xs) - 1 in
       let p = length xs - length (flatten (drop j (lines t xs))) in
-      let whole : Whole t (take p xs) = rw (flatten_last 1 t xs).2 (whole_take j t xs (omega (arith, lines-some))) in
+      let whole : Whole t (take p xs) = rw (flatten_last 1 t xs).2 (whole_take j t xs (omega (arith, lines_some))) in
       ap (λ zs. lines t (zs ++ ys)) (sym (take-append-drop p xs))
       ∙ ap (lines t) (append_assoc (take p xs) (drop p xs) ys)
       ∙ whole (drop p xs ++ ys)

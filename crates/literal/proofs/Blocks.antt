@@ -9,12 +9,12 @@ use lib.ListN.{length, drop, length-drop}
 use Rattle.literal_places.specs.Literal.{starts_with, stands}
 use Rattle.literal_places.specs.Sweeps.{Nowhere, Swept}
 use Rattle.literal_places.proofs.Stands.{starts_short, stands_nowhere}
-use Rattle.literal_places.proofs.Sweeps.{SweptTo, swept-more}
+use Rattle.literal_places.proofs.Sweeps.{SweptTo, swept_more}
 
 -- a block more, which reaches back over places already seen where fewer than n are left
 pub swept_block : {literal line : List ℕ} {from i to at : ℕ} (n : ℕ) → SweptTo literal line from i to → from + n ≤ to → at ≡ min i (to - n) → Nowhere literal line at (at + n)
     → SweptTo literal line from (at + n) to
-swept_block n seen l e block = swept-more _ n seen (omega arith) (omega arith) (omega arith) block
+swept_block n seen l e block = swept_more _ n seen (omega arith) (omega arith) (omega arith) block
 
 -- the answer for all places at which the literal fits is the answer for the line
 pub swept_whole : {literal line : List ℕ} {to : ℕ} {r : Bool} → Swept literal line 0 to r → length line < to + length literal → r ≡ stands literal line

@@ -74,14 +74,14 @@ pub swept_start : {literal line : List ℕ} {from to : ℕ} → from ≤ to → 
 swept_start l = record { after = omega arith; within = l; none = λ j a b. absurd (omega arith) }
 
 module _ {literal line : List ℕ} {from i to : ℕ} where
-  pub swept-more : (at n : ℕ) → SweptTo literal line from i to → from ≤ at → at ≤ i → at + n ≤ to → Nowhere literal line at (at + n)
+  pub swept_more : (at n : ℕ) → SweptTo literal line from i to → from ≤ at → at ≤ i → at + n ≤ to → Nowhere literal line at (at + n)
       → SweptTo literal line from (at + n) to
-  swept-more at n seen l m r block =
+  swept_more at n seen l m r block =
       record { after = omega arith; within = r; none = λ j a b. elim (dec_lt j i) [ yes k ↦ seen.none j a k | no k ↦ block j (omega arith) b ] }
 
   -- one place more
-  pub swept-one : SweptTo literal line from i to → i < to → Nowhere literal line i (i + 1) → SweptTo literal line from (i + 1) to
-  swept-one seen l block = swept-more i 1 seen seen.after (omega arith) (omega arith) block
+  pub swept_one : SweptTo literal line from i to → i < to → Nowhere literal line i (i + 1) → SweptTo literal line from (i + 1) to
+  swept_one seen l block = swept_more i 1 seen seen.after (omega arith) (omega arith) block
 
   pub swept_none : SweptTo literal line from i to → to ≤ i → Swept literal line from to false
   swept_none seen l = record { found = λ e. absurd (false≢true e); none = λ e j a b. seen.none j a (omega arith) }

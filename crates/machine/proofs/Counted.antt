@@ -15,7 +15,7 @@ use Rattle.definition.proofs.Uncut.{Uncut}
 use Rattle.session.specs.declared.Session.{Session}
 use Rattle.session.specs.Held.{kept_bytes, unanswered}
 use Rattle.promises.specs.Promises.{Fitted, kept_before}
-use Rattle.promises.proofs.Giving.{going_is, kept-before, lines_is}
+use Rattle.promises.proofs.Giving.{going_is, kept_before_lem, lines_is}
 use Rattle.promises.proofs.Invariant.{Inv}
 use Rattle.machine.specs.Promises.{Gone}
 
@@ -84,8 +84,8 @@ pub record Facts (c : Settings) (input : List ℕ) (answers : ℕ → Bool) (s :
 module _ (input : List ℕ) (answers : ℕ → Bool) (s : Session) (w rest : List ℕ) (count : ℕ) (given : List Row)
     (i : Inv input answers s w rest count given) where
   -- the lines gone through are the first so many
-  pub gone-is : upto s.walk.settings input count ≡ i.gone
-  gone-is =
+  pub gone_is : upto s.walk.settings input count ≡ i.gone
+  gone_is =
       let later = lines s.walk.settings.terminator (unanswered s w ++ text s.walk.settings rest) in
       ap (take count) i.lines_are ∙ take_at i.gone later count (sym i.count_is)
 
@@ -93,7 +93,7 @@ module _ (input : List ℕ) (answers : ℕ → Bool) (s : Session) (w rest : Lis
   facts =
       let c = s.walk.settings in
       let later = lines c.terminator (unanswered s w ++ text c rest) in
-      let at : i.gone ≡ upto c input count = sym gone-is in
+      let at : i.gone ≡ upto c input count = sym gone_is in
       record {
         taken = i.past;
         later_is = ap (drop count) i.lines_are ∙ drop_at i.gone later count (sym i.count_is);
@@ -102,7 +102,7 @@ module _ (input : List ℕ) (answers : ℕ → Bool) (s : Session) (w rest : Lis
         uncut = i.uncut;
         bytes_are = subst (λ g. s.walk.bytes ≡ length (flatten g)) at i.bytes_is;
         going_now = subst (λ g. (gone_lines c answers g).going ≡ s.walk.going) at ((same_lines c answers i.gone).1 ∙ sym (going_is input answers s w rest count given i));
-        kept_is = subst (λ g. kept_before c answers g ≡ kept_bytes s w) at (kept-before input answers s w rest count given i);
+        kept_is = subst (λ g. kept_before c answers g ≡ kept_bytes s w) at (kept_before_lem input answers s w rest count given i);
         gone =
             record {
               lines_are = sym (take-append-drop count (all c input));

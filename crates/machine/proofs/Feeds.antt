@@ -13,32 +13,32 @@ at s w rest = record { session = s; window = w; rest = rest }
 
 module _ (p : Program) (s : Session) (w rest : List ℕ) where
   -- the waiting line is answered
-  pub turn-gives : (hit : Bool) → p.matcher (shown_line s w) ≡ hit → answering s w table_size hit ≡ Give
+  pub turn_gives : (hit : Bool) → p.matcher (shown_line s w) ≡ hit → answering s w table_size hit ≡ Give
       → turns p (at s w rest) ≡ goes (p.says (shown_line s w) (answer_rows s w hit)) (at (answer_session s w hit) w rest)
   unfolding turns
-  turn-gives hit h g =
+  turn_gives hit h g =
       ap (λ (b : Bool). answers (answering s w table_size b) b p (at s w rest)) h
       ∙ ap (λ o. answers o hit p (at s w rest)) g
 
   -- none waits
-  pub turn-feeds : ((hit : Bool) → answering s w table_size hit ≡ AnswerRefused 6) → turns p (at s w rest) ≡ feeds p (at s w rest) 6
+  pub turn_feeds : ((hit : Bool) → answering s w table_size hit ≡ AnswerRefused 6) → turns p (at s w rest) ≡ feeds p (at s w rest) 6
   unfolding turns
-  turn-feeds g =
+  turn_feeds g =
       let hit = p.matcher (shown_line s w) in
       ap (λ o. answers o hit p (at s w rest)) (g hit)
 
-  pub feeds-ends : (recorded s).refusal ≡ 0 → feeds p (at s w rest) 6 ≡ ends (p.closes (recorded s).end)
+  pub feeds_ends : (recorded s).refusal ≡ 0 → feeds p (at s w rest) 6 ≡ ends (p.closes (recorded s).end)
   unfolding feeds fed
-  feeds-ends e = rw (eq-eqb (recorded s).refusal 0 e)
+  feeds_ends e = rw (eq-eqb (recorded s).refusal 0 e)
 
-  pub feeds-wants : ((recorded s).refusal ≡ 0 → ⊥) → rest ≡ [] → feeds p (at s w rest) 6 ≡ wants (at s w rest)
+  pub feeds_wants : ((recorded s).refusal ≡ 0 → ⊥) → rest ≡ [] → feeds p (at s w rest) 6 ≡ wants (at s w rest)
   unfolding feeds fed fed_window
-  feeds-wants e n = rw (ne_eqb (recorded s).refusal 0 e, eq-eqb (length rest) 0 (ap length n))
+  feeds_wants e n = rw (ne_eqb (recorded s).refusal 0 e, eq-eqb (length rest) 0 (ap length n))
 
-  pub feeds-refused : (k : ℕ) → ((recorded s).refusal ≡ 0 → ⊥) → 0 < length rest → (offered s w rest).refusal ≡ k → (k ≡ 0 → ⊥)
+  pub feeds_refused : (k : ℕ) → ((recorded s).refusal ≡ 0 → ⊥) → 0 < length rest → (offered s w rest).refusal ≡ k → (k ≡ 0 → ⊥)
       → feeds p (at s w rest) 6 ≡ ends (p.refuses k)
   unfolding feeds fed fed_window
-  feeds-refused k e n o z =
+  feeds_refused k e n o z =
       rw (
         ne_eqb (recorded s).refusal 0 e,
         ne_eqb (length rest) 0 (λ x. omega (arith, n, x)),
@@ -46,19 +46,19 @@ module _ (p : Program) (s : Session) (w rest : List ℕ) where
       )
       (ap (λ j. ends (p.refuses j)) o)
 
-  pub feeds-goes : ((recorded s).refusal ≡ 0 → ⊥) → 0 < length rest → (offered s w rest).refusal ≡ 0
+  pub feeds_goes : ((recorded s).refusal ≡ 0 → ⊥) → 0 < length rest → (offered s w rest).refusal ≡ 0
       → feeds p (at s w rest) 6 ≡ goes [] (at (offered s w rest).session (offered_window s w rest) (drop (offered s w rest).taken rest))
   unfolding feeds fed fed_window
-  feeds-goes e n o =
+  feeds_goes e n o =
       rw (
         ne_eqb (recorded s).refusal 0 e,
         ne_eqb (length rest) 0 (λ x. omega (arith, n, x)),
         eq-eqb (offered s w rest).refusal 0 o,
       )
 
-  pub hears-end : (told s).refusal ≡ 0 → hears p ended (at s w rest) ≡ goes [] (at (told s).session w rest)
+  pub hears_end : (told s).refusal ≡ 0 → hears p ended (at s w rest) ≡ goes [] (at (told s).session w rest)
   unfolding fed_end
-  hears-end e = rw (eq-eqb (told s).refusal 0 e)
+  hears_end e = rw (eq-eqb (told s).refusal 0 e)
 
 -- no more is taken than was at hand
 pub fed_taken : (s : Session) (refusal : ℕ) (w piece : List ℕ) → (fed s refusal w piece).taken ≤ length piece

@@ -6,8 +6,8 @@ module _ {S : Type 0} (m : Machine S) where
   one_more : (k n : ℕ) → k + 1 + n ≡ k + suc n
   one_more k n = omega arith
 
-  pub leads-none : (s : S) → Leads m 0 s [] s
-  leads-none s n reads =
+  pub leads_none : (s : S) → Leads m 0 s [] s
+  leads_none s n reads =
       let e : 0 + n ≡ n = omega arith in
       ap (λ j. run m j (m.turn s) reads) e
 
@@ -20,8 +20,8 @@ module _ {S : Type 0} (m : Machine S) where
       ∙ ap (λ t. before ++ run m (suc n) t reads) e
       ∙ sym (append_assoc before text (run m n (m.turn next) reads))
 
-  pub closes-ends : (k : ℕ) (s : S) (before : List ℕ) (st : S) (text : List ℕ) → Leads m k s before st → m.turn st ≡ ends text
+  pub closes_ends : (k : ℕ) (s : S) (before : List ℕ) (st : S) (text : List ℕ) → Leads m k s before st → m.turn st ≡ ends text
       → Closes m (k + 1) s (before ++ text)
   unfolding run
-  closes-ends k s before st text h e n reads =
+  closes_ends k s before st text h e n reads =
       ap (λ j. run m j (m.turn s) reads) (one_more k n) ∙ h (suc n) reads ∙ ap (λ t. before ++ run m (suc n) t reads) e

@@ -35,25 +35,25 @@ module _ (p : Program) (c : Settings) (w input : List ℕ) (served : (opened c (
   abbrev s : Session
   s = (opened c (length w)).session
 
-  start-run : Run c input (answers_of p.matcher c input) (at_start c w input)
-  start-run = record { window = w; served = served; steps = here }
+  start_run : Run c input (answers_of p.matcher c input) (at_start c w input)
+  start_run = record { window = w; served = served; steps = here }
 
-  fresh-is : s ≡ fresh c (length w)
-  fresh-is = served_fresh c (length w) served
+  fresh_is : s ≡ fresh c (length w)
+  fresh_is = served_fresh c (length w) served
 
-  not-ended : s.places.input ≡ Ended → ⊥
-  not-ended e = let z : ◌≡◌ {A = ℕ} 0 1 = cc (ap (λ (x : Session). x.places.input) fresh-is) in omega (arith, z)
+  not_ended : s.places.input ≡ Ended → ⊥
+  not_ended e = let z : ◌≡◌ {A = ℕ} 0 1 = cc (ap (λ (x : Session). x.places.input) fresh_is) in omega (arith, z)
 
-  start-weight : weight s input ≤ 2 * length input + 1
+  start_weight : weight s input ≤ 2 * length input + 1
   unfolding weight
-  start-weight = subst (λ x. weight x input ≤ 2 * length input + 1) (sym fresh-is) (omega arith)
+  start_weight = subst (λ x. weight x input ≤ 2 * length input + 1) (sym fresh_is) (omega arith)
 
-  start-now : (how : _) → Now p c input how s w input 0 []
-  start-now how =
+  start_now : (how : _) → Now p c input how s w input 0 []
+  start_now how =
       record {
-        same = run_settings c input (answers_of p.matcher c input) (at_start c w input) start-run;
-        inv = inv_run c input (answers_of p.matcher c input) (at_start c w input) start-run;
-        told = λ e. absurd (not-ended e);
+        same = run_settings c input (answers_of p.matcher c input) (at_start c w input) start_run;
+        inv = inv_run c input (answers_of p.matcher c input) (at_start c w input) start_run;
+        told = λ e. absurd (not_ended e);
         lines_whole = λ _. tt;
       }
 
@@ -62,10 +62,10 @@ unfolding said said_from
 printed p c w front reads n served l =
     let input = front ++ readBytes reads in
     let s = (opened c (length w)).session in
-    let window : s.places.window ≡ length w = ap (λ (x : Session). x.places.window) (fresh-is p c w input served) in
+    let window : s.places.window ≡ length w = ap (λ (x : Session). x.places.window) (fresh_is p c w input served) in
     subst (λ x. Prints p c x input (ending_of reads) (run (driver p) n (turns p (begins c w front)) reads)) window
-    (settle p c input (ending_of reads) n s w front (readBytes reads) 0 [] reads (start-now p c w input served (ending_of reads)) (λ _. (refl, refl))
-    (omega (arith, l, start-weight p c w input served)))
+    (settle p c input (ending_of reads) n s w front (readBytes reads) 0 [] reads (start_now p c w input served (ending_of reads)) (λ _. (refl, refl))
+    (omega (arith, l, start_weight p c w input served)))
 
 pub one_text : OneText
 one_text = one

@@ -10,13 +10,13 @@ use Rattle.session.specs.declared.Session.{Session}
 use Rattle.session.specs.Calls.{answer_rows, shown_line}
 use Rattle.session.specs.Held.{line_length, unanswered, waits}
 use Rattle.promises.specs.Promises.{answers_of}
-use Rattle.promises.proofs.Carry.{waiting-now}
+use Rattle.promises.proofs.Carry.{waiting_now}
 use Rattle.promises.proofs.Giving.{line, lines_now, rows_step}
 use Rattle.promises.proofs.Invariant.{Inv}
 use Rattle.promises.proofs.Promises.{shown_handed}
 use Rattle.machine.specs.Program.{Program}
 use Rattle.machine.specs.Promises.{Whole, said, said_from}
-use Rattle.machine.proofs.Counted.{gone-is, upto}
+use Rattle.machine.proofs.Counted.{gone_is, upto}
 
 pub said_append : (p : Program) (c : Settings) (answers : ℕ → Bool) (s : State) (xs ys : List (List ℕ))
     → said_from p c answers s (xs ++ ys) ≡ said_from p c answers s xs ++ said_from p c answers (state c answers s xs) ys
@@ -44,12 +44,12 @@ said_rows p printRow h c answers s (l ∷ ls) =
     let rs = step_rows s.going c s (length l) a in
     let next = step_state s.going c s (length l) a in
     ap₂ (λ (x y : List ℕ). x ++ y) (h (handed c.terminator l) rs) (said_rows p printRow h c answers next ls)
-    ∙ sym (printed-append printRow rs (rows c answers next ls))
+    ∙ sym (printed_append printRow rs (rows c answers next ls))
   where
-    printed-append : (f : Row → List ℕ) (xs ys : List Row) → flatten (map f (xs ++ ys)) ≡ flatten (map f xs) ++ flatten (map f ys)
-    printed-append f [] ys = refl
-    printed-append f (x ∷ xs) ys =
-        ap (λ z. f x ++ z) (printed-append f xs ys) ∙ sym (append_assoc (f x) (flatten (map f xs)) (flatten (map f ys)))
+    printed_append : (f : Row → List ℕ) (xs ys : List Row) → flatten (map f (xs ++ ys)) ≡ flatten (map f xs) ++ flatten (map f ys)
+    printed_append f [] ys = refl
+    printed_append f (x ∷ xs) ys =
+        ap (λ z. f x ++ z) (printed_append f xs ys) ∙ sym (append_assoc (f x) (flatten (map f xs)) (flatten (map f ys)))
 
 module _ (p : Program) (input : List ℕ) (s : Session) (w rest : List ℕ) (count : ℕ) (given : List Row)
     (i : Inv input (answers_of p.matcher s.walk.settings input) s w rest count given) (v : waits s w ≡ true) where
@@ -62,18 +62,18 @@ module _ (p : Program) (input : List ℕ) (s : Session) (w rest : List ℕ) (cou
       ap (take (count + 1)) (i.lines_are ∙ ap (λ x. i.gone ++ x) (lines_now input answers s w rest count given i v))
       ∙ ap (λ k. take (k + 1) (i.gone ++ (line s w ∷ later))) i.count_is
       ∙ take-append-add i.gone (line s w ∷ later) 1
-      ∙ ap (λ g. g ++ (line s w ∷ [])) (sym (gone-is input answers s w rest count given i))
+      ∙ ap (λ g. g ++ (line s w ∷ [])) (sym (gone_is input answers s w rest count given i))
 
-  pub said-next : said p s.walk.settings input (upto s.walk.settings input (count + 1))
+  pub said_next : said p s.walk.settings input (upto s.walk.settings input (count + 1))
       ≡ said p s.walk.settings input (upto s.walk.settings input count)
       ++ p.says (shown_line s w) (answer_rows s w (answers_of p.matcher s.walk.settings input (count + 1)))
   unfolding said said_from
-  said-next =
+  said_next =
       let c = s.walk.settings in
       let answers = answers_of p.matcher c input in
       let b = state c answers (begun c) i.gone in
-      let gone = gone-is input answers s w rest count given i in
-      let e = waiting-now input answers s w rest count given i v in
+      let gone = gone_is input answers s w rest count given i in
+      let e = waiting_now input answers s w rest count given i v in
       ap (said_from p c answers (begun c)) (upto_next ∙ ap (λ g. g ++ (line s w ∷ [])) gone)
       ∙ said_append p c answers (begun c) i.gone (line s w ∷ [])
       ∙ ap₂ (λ (x y : List ℕ). x ++ y) (ap (said_from p c answers (begun c)) (sym gone))

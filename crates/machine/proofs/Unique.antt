@@ -10,7 +10,7 @@ use Rattle.definition.specs.Text.{first_place, lines, text}
 use Rattle.definition.proofs.Lists.{flatten_append}
 use Rattle.definition.proofs.Terminator.{lines_only}
 use Rattle.promises.specs.Promises.{kept_before}
-use Rattle.promises.proofs.Room.{cut-longer}
+use Rattle.promises.proofs.Room.{cut_longer}
 use Rattle.machine.specs.Program.{Program}
 use Rattle.machine.specs.Promises.{Ending, Gone, HasEnded, Prints, Whole, asked, breaks_off, cut_off, finished, no_room, said, too_large}
 
@@ -69,31 +69,31 @@ module _ (p : Program) (c : Settings) (window : ℕ) (input : List ℕ) (how : E
         → Closing before later (breaks_off how p)
 
   -- a line follows where none does
-  some-none : (later : List (List ℕ)) (l : List ℕ) (ys : List (List ℕ)) → later ≡ [] → later ≡ l ∷ ys → ⊥
-  some-none later l ys e k = let z = ap length (sym e ∙ k) in omega (arith, z)
+  some_none : (later : List (List ℕ)) (l : List ℕ) (ys : List (List ℕ)) → later ≡ [] → later ≡ l ∷ ys → ⊥
+  some_none later l ys e k = let z = ap length (sym e ∙ k) in omega (arith, z)
 
   -- the next line is the rest
   line_rest : (later : List (List ℕ)) (l : List ℕ) (ys : List (List ℕ)) (rest : List ℕ) → length rest ≤ first_place t rest → later ≡ l ∷ ys
       → later ≡ lines t rest → length l ≡ length rest
   line_rest later l ys rest h e k = ap length (rest_lines t rest h l ys (sym k ∙ e)).0
 
-  same-closing : (before later : List (List ℕ)) (x y : List ℕ) → Closing before later x → Closing before later y → x ≡ y
-  same-closing before later _ _ (closed a h) (closed b k) = refl
-  same-closing before later _ _ (full l m e g a b) (full l' m' e' g' a' b') = refl
-  same-closing before later _ _ (large l m e g a b) (large l' m' e' g' a' b') = refl
-  same-closing before later _ _ (off r e n g h a b) (off r' e' n' g' h' a' b') = refl
-  same-closing before later _ _ (closed a h) (full l m e g x y) = absurd (⊎_elim (λ z. z g) (λ z. some-none later l m z e) a)
-  same-closing before later _ _ (full l m e g x y) (closed a h) = absurd (⊎_elim (λ z. z g) (λ z. some-none later l m z e) a)
-  same-closing before later _ _ (closed a h) (large l m e g x y) = absurd (⊎_elim (λ z. z g) (λ z. some-none later l m z e) a)
-  same-closing before later _ _ (large l m e g x y) (closed a h) = absurd (⊎_elim (λ z. z g) (λ z. some-none later l m z e) a)
-  same-closing before later _ _ (closed a h) (off r e n g k x y) = absurd (⊎_elim n (λ z. z g) h)
-  same-closing before later _ _ (off r e n g k x y) (closed a h) = absurd (⊎_elim n (λ z. z g) h)
-  same-closing before later _ _ (full l m e g a b) (large l' m' e' g' a' b') = absurd (omega (arith, b, b'))
-  same-closing before later _ _ (large l' m' e' g' a' b') (full l m e g a b) = absurd (omega (arith, b, b'))
-  same-closing before later _ _ (full l m e g a b) (off r e' n g' h x y) = absurd (omega (arith, a, x, line_rest later l m r h e e'))
-  same-closing before later _ _ (off r e' n g' h x y) (full l m e g a b) = absurd (omega (arith, a, x, line_rest later l m r h e e'))
-  same-closing before later _ _ (large l m e g a b) (off r e' n g' h x y) = absurd (omega (arith, a, y, line_rest later l m r h e e'))
-  same-closing before later _ _ (off r e' n g' h x y) (large l m e g a b) = absurd (omega (arith, a, y, line_rest later l m r h e e'))
+  same_closing : (before later : List (List ℕ)) (x y : List ℕ) → Closing before later x → Closing before later y → x ≡ y
+  same_closing before later _ _ (closed a h) (closed b k) = refl
+  same_closing before later _ _ (full l m e g a b) (full l' m' e' g' a' b') = refl
+  same_closing before later _ _ (large l m e g a b) (large l' m' e' g' a' b') = refl
+  same_closing before later _ _ (off r e n g h a b) (off r' e' n' g' h' a' b') = refl
+  same_closing before later _ _ (closed a h) (full l m e g x y) = absurd (⊎_elim (λ z. z g) (λ z. some_none later l m z e) a)
+  same_closing before later _ _ (full l m e g x y) (closed a h) = absurd (⊎_elim (λ z. z g) (λ z. some_none later l m z e) a)
+  same_closing before later _ _ (closed a h) (large l m e g x y) = absurd (⊎_elim (λ z. z g) (λ z. some_none later l m z e) a)
+  same_closing before later _ _ (large l m e g x y) (closed a h) = absurd (⊎_elim (λ z. z g) (λ z. some_none later l m z e) a)
+  same_closing before later _ _ (closed a h) (off r e n g k x y) = absurd (⊎_elim n (λ z. z g) h)
+  same_closing before later _ _ (off r e n g k x y) (closed a h) = absurd (⊎_elim n (λ z. z g) h)
+  same_closing before later _ _ (full l m e g a b) (large l' m' e' g' a' b') = absurd (omega (arith, b, b'))
+  same_closing before later _ _ (large l' m' e' g' a' b') (full l m e g a b) = absurd (omega (arith, b, b'))
+  same_closing before later _ _ (full l m e g a b) (off r e' n g' h x y) = absurd (omega (arith, a, x, line_rest later l m r h e e'))
+  same_closing before later _ _ (off r e' n g' h x y) (full l m e g a b) = absurd (omega (arith, a, x, line_rest later l m r h e e'))
+  same_closing before later _ _ (large l m e g a b) (off r e' n g' h x y) = absurd (omega (arith, a, y, line_rest later l m r h e e'))
+  same_closing before later _ _ (off r e' n g' h x y) (large l m e g a b) = absurd (omega (arith, a, y, line_rest later l m r h e e'))
 
   -- # No case has gone further than another
 
@@ -101,18 +101,18 @@ module _ (p : Program) (c : Settings) (window : ℕ) (input : List ℕ) (how : E
   abbrev Answered : List (List ℕ) → List (List ℕ) → Type 0
   Answered before later = HasEnded c input how ⊎ (Whole t before ⊎ (0 < length later))
 
-  not-past : (before later : List (List ℕ)) (x : List ℕ) → Gone c input answers window before later → Closing before later x
+  not_past : (before later : List (List ℕ)) (x : List ℕ) → Gone c input answers window before later → Closing before later x
       → (l : List ℕ) (m more : List (List ℕ)) → Gone c input answers window (before ++ (l ∷ m)) more → Answered (before ++ (l ∷ m)) more → ⊥
-  not-past before later _ g (closed (inl h) k) l m more d a = h (d.reached before l m refl)
-  not-past before later _ g (closed (inr h) k) l m more d a =
-      some-none later l (m ++ more) h (follows before later (l ∷ (m ++ more)) g.lines_are (d.lines_are ∙ append_assoc before (l ∷ m) more))
-  not-past before later _ g (full line rest e on h k) l m more d a =
+  not_past before later _ g (closed (inl h) k) l m more d a = h (d.reached before l m refl)
+  not_past before later _ g (closed (inr h) k) l m more d a =
+      some_none later l (m ++ more) h (follows before later (l ∷ (m ++ more)) g.lines_are (d.lines_are ∙ append_assoc before (l ∷ m) more))
+  not_past before later _ g (full line rest e on h k) l m more d a =
       let same = follows before (line ∷ rest) (l ∷ (m ++ more)) (g.lines_are ∙ ap (λ x. before ++ x) e) (d.lines_are ∙ append_assoc before (l ∷ m) more) in
       omega (arith, h, ap length (head-eq_of_cons-eq same), d.fitted before l m refl)
-  not-past before later _ g (large line rest e on h k) l m more d a =
+  not_past before later _ g (large line rest e on h k) l m more d a =
       let same = follows before (line ∷ rest) (l ∷ (m ++ more)) (g.lines_are ∙ ap (λ x. before ++ x) e) (d.lines_are ∙ append_assoc before (l ∷ m) more) in
       omega (arith, h, ap length (head-eq_of_cons-eq same), d.within, flatten_one before l m)
-  not-past before later _ g (off rest e n on h x y) l m more d a =
+  not_past before later _ g (off rest e n on h x y) l m more d a =
       let same = follows before (lines t rest) (l ∷ (m ++ more)) (g.lines_are ∙ ap (λ z. before ++ z) e) (d.lines_are ∙ append_assoc before (l ∷ m) more) in
       let only = rest_lines t rest h l (m ++ more) same in
       ⊎_elim n
@@ -132,8 +132,8 @@ module _ (p : Program) (c : Settings) (window : ℕ) (input : List ℕ) (how : E
     closes : Closing before later closing
     text_is : x ≡ said p c input before ++ closing
 
-  case-of : (x : List ℕ) → Prints p c window input how x → Case x
-  case-of _ (finished before later g h k) =
+  case_of : (x : List ℕ) → Prints p c window input how x → Case x
+  case_of _ (finished before later g h k) =
       record {
         before = before;
         later = later;
@@ -143,7 +143,7 @@ module _ (p : Program) (c : Settings) (window : ℕ) (input : List ℕ) (how : E
         closes = closed h (⊎_elim (λ e. inl e) (λ e. inr e.0) k);
         text_is = refl;
       }
-  case-of _ (no_room before line later g on h k) =
+  case_of _ (no_room before line later g on h k) =
       record {
         before = before;
         later = line ∷ later;
@@ -153,7 +153,7 @@ module _ (p : Program) (c : Settings) (window : ℕ) (input : List ℕ) (how : E
         closes = full line later refl on h k;
         text_is = refl;
       }
-  case-of _ (too_large before line later g on h k) =
+  case_of _ (too_large before line later g on h k) =
       record {
         before = before;
         later = line ∷ later;
@@ -163,7 +163,7 @@ module _ (p : Program) (c : Settings) (window : ℕ) (input : List ℕ) (how : E
         closes = large line later refl on h k;
         text_is = refl;
       }
-  case-of _ (cut_off before rest g n on w h x y) =
+  case_of _ (cut_off before rest g n on w h x y) =
       record {
         before = before;
         later = lines t rest;
@@ -175,8 +175,8 @@ module _ (p : Program) (c : Settings) (window : ℕ) (input : List ℕ) (how : E
       }
 
   -- of two cases the one has gone through no fewer lines than the other
-  no-fewer : (x y : List ℕ) (a : Case x) (b : Case y) → length b.before ≤ length a.before
-  no-fewer x y a b = elim (dec_lt (length a.before) (length b.before)) [
+  no_fewer : (x y : List ℕ) (a : Case x) (b : Case y) → length b.before ≤ length a.before
+  no_fewer x y a b = elim (dec_lt (length a.before) (length b.before)) [
     | yes k ↦
         let g = a.gone in
         let e = sym b.gone.lines_are ∙ g.lines_are in
@@ -191,13 +191,13 @@ module _ (p : Program) (c : Settings) (window : ℕ) (input : List ℕ) (how : E
           go [] e z =
               omega (arith, k, ap length e, length-append b.before b.later, length-append a.before [])
           go (l ∷ more) e z =
-              let m = cut-longer b.before b.later a.before l more e k in
-              not-past a.before a.later a.closing a.gone a.closes l m.0 b.later
+              let m = cut_longer b.before b.later a.before l more e k in
+              not_past a.before a.later a.closing a.gone a.closes l m.0 b.later
               (subst (λ q. Gone c input answers window q b.later) m.1 b.gone) (subst (λ q. Answered q b.later) m.1 b.answered)
 
   same_case : (x y : List ℕ) → Case x → Case y → x ≡ y
   same_case x y a b =
-      let size : length a.before ≡ length b.before = omega (arith, no-fewer x y a b, no-fewer y x b a) in
+      let size : length a.before ≡ length b.before = omega (arith, no_fewer x y a b, no_fewer y x b a) in
       let joined = sym a.gone.lines_are ∙ b.gone.lines_are in
       let same : a.before ≡ b.before =
       sym (take_at a.before a.later (length b.before) size) ∙ ap (take (length b.before)) joined ∙ take_at b.before b.later (length b.before) refl
@@ -208,8 +208,8 @@ module _ (p : Program) (c : Settings) (window : ℕ) (input : List ℕ) (how : E
       let moved = subst (λ q. Closing b.before q a.closing) rest (subst (λ q. Closing q a.later a.closing) same a.closes) in
       a.text_is
       ∙ ap (λ q. said p c input q ++ a.closing) same
-      ∙ ap (λ q. said p c input b.before ++ q) (same-closing b.before b.later a.closing b.closing moved b.closes)
+      ∙ ap (λ q. said p c input b.before ++ q) (same_closing b.before b.later a.closing b.closing moved b.closes)
       ∙ sym b.text_is
 
   pub one : (x y : List ℕ) → Prints p c window input how x → Prints p c window input how y → x ≡ y
-  one x y a b = same_case x y (case-of x a) (case-of y b)
+  one x y a b = same_case x y (case_of x a) (case_of y b)

@@ -49,17 +49,17 @@ module _ (k : Walk) (since : List ℕ) where
       let last = flatten_last k.settings.before k.settings.terminator since in
       (omega arith, omega (arith, last.0))
 
-  before-part : part from (length since) since ≡ flatten before
+  before_part : part from (length since) since ≡ flatten before
   unfolding before_of last_start
-  before-part =
+  before_part =
       let at = length since - length (flatten before) in
       take_all (length since - at) (drop at since) (omega (arith, length-drop at since))
       ∙ (flatten_last k.settings.before k.settings.terminator since).1
 
-  pub before-lines : lines k.settings.terminator (part from (length since) since) ≡ before
+  pub before_lines : lines k.settings.terminator (part from (length since) since) ≡ before
   unfolding last_of
-  before-lines =
-      ap (lines k.settings.terminator) before-part ∙ lines_drop (length all - k.settings.before) k.settings.terminator since
+  before_lines =
+      ap (lines k.settings.terminator) before_part ∙ lines_drop (length all - k.settings.before) k.settings.terminator since
 
   left_over : k.settings.before < length all → 0 < from
   unfolding before_of last_start
@@ -76,9 +76,9 @@ module _ (k : Walk) (since : List ℕ) where
         some_bytes j t since (omega arith) some,
       )
 
-  all-before : length all ≤ k.settings.before → from ≤ 0
+  all_before : length all ≤ k.settings.before → from ≤ 0
   unfolding before_of last_start last_of
-  all-before few =
+  all_before few =
       let t = k.settings.terminator in
       let z : length all - k.settings.before ≡ 0 = omega arith in
       let whole : length (flatten (drop (length all - k.settings.before) all)) ≡ length since = rw z (ap length (lines_whole t since)) in
@@ -88,12 +88,12 @@ module _ (k : Walk) (since : List ℕ) where
   pub over : ltb 0 from ≡ ltb k.settings.before (length all)
   over = elim (dec_lt k.settings.before (length all)) [
     | yes more ↦ lt-ltb 0 from (left_over more) ∙ sym (lt-ltb k.settings.before (length all) more)
-    | no none ↦ le-ltb 0 from (all-before (omega arith)) ∙ sym (le-ltb k.settings.before (length all) (omega arith))
+    | no none ↦ le-ltb 0 from (all_before (omega arith)) ∙ sym (le-ltb k.settings.before (length all) (omega arith))
   ]
 
-  pub lines-size : length before ≡ count
+  pub lines_size : length before ≡ count
   unfolding before_of
-  lines-size = refl
+  lines_size = refl
 
 -- # The break, and the room
 
@@ -112,19 +112,19 @@ length_break (suc gap) table h = rw (lt-ltb 0 (suc gap) (omega arith)) (length_p
 
 -- what has room for a match has room for its before-context, after a break or none
 module _ (k : Walk) (since : List ℕ) (len : ℕ) (b : Before) (gap : ℕ) (table : List ℕ) (p : Placing k since len b gap (length table)) where
-  pub placing-from : b.from ≤ length since
-  placing-from = rw p.before_is (from_le k since).0
+  pub placing_from : b.from ≤ length since
+  placing_from = rw p.before_is (from_le k since).0
 
-  placing-lines : length (lines k.settings.terminator (part b.from (length since) since)) ≡ b.lines
-  placing-lines = rw p.before_is (ap length (before-lines k since) ∙ lines-size k since)
+  placing_lines : length (lines k.settings.terminator (part b.from (length since) since)) ≡ b.lines
+  placing_lines = rw p.before_is (ap length (before_lines k since) ∙ lines_size k since)
 
-  pub placing-fits : BeforeFits (length (break_table gap table)) (row_size * gap) (length (part b.from (length since) since))
+  pub placing_fits : BeforeFits (length (break_table gap table)) (row_size * gap) (length (part b.from (length since) since))
       (length (lines k.settings.terminator (part b.from (length since) since))) (k.bytes - (length since - b.from)) (k.lines + 1 - b.lines)
-  placing-fits =
+  placing_fits =
       let size = length_break gap table (omega (arith, p.room)) in
       let bytes = length-take (length since - b.from) (drop b.from since) in
       record {
-        room = omega (arith, size, placing-lines, p.room);
-        offsets = omega (arith, bytes, placing-from, length-drop b.from since, p.agree);
-        numbers = omega (arith, placing-lines, p.numbered, p.agree);
+        room = omega (arith, size, placing_lines, p.room);
+        offsets = omega (arith, bytes, placing_from, length-drop b.from since, p.agree);
+        numbers = omega (arith, placing_lines, p.numbered, p.agree);
       }

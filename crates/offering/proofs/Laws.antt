@@ -14,7 +14,7 @@ use Rattle.session.specs.declared.Session.{Session}
 use Rattle.session.specs.Calls.{Idle, OfferDecision, OfferRefused, Take, before_quit, fitting, idle, offering, quit_front, quit_place, stored_window, taking}
 use Rattle.session.specs.Held.{held_bytes, kept_from, waits}
 use Rattle.session.specs.Sound.{sound, taken_bytes}
-use Rattle.session.proofs.Cases.{OfferCase, full, offer-is, quits, sized, takes}
+use Rattle.session.proofs.Cases.{OfferCase, full, offer_is, quits, sized, takes}
 use Rattle.session.proofs.Keeps.{Taken, TakenIf, offer_taken}
 use Rattle.session.proofs.Parts.{quit_le}
 use Rattle.held.proofs.Laws.{held_from, sound_of}
@@ -27,7 +27,7 @@ use Rattle.offering.specs.Plan.{Storing, Sounded, plan_of, planned}
 
 pub planned_is : (s : Session) (w piece : List ℕ) (o : OfferDecision) → OfferCase s w piece o → plan_of o (kept_from s w) ≡ planned s w piece
 unfolding planned
-planned_is s w piece o h = ap (λ p. plan_of p (kept_from s w)) (sym (offer-is s w piece o h))
+planned_is s w piece o h = ap (λ p. plan_of p (kept_from s w)) (sym (offer_is s w piece o h))
 
 pub and-false : (b : Bool) → (b && false) ≡ false
 and-false true = refl
@@ -74,44 +74,44 @@ module _ (s : Session) (w piece : List ℕ) (from : ℕ) (so : Sounded s w from)
   sounds : sound s (length w) ≡ true
   sounds = sound_of s (length w) so.agree so.same
 
-  free-is : free ≡ s.places.window - held_bytes s w
-  free-is = ap (λ k. s.places.window - (s.places.end - k)) so.from_is ∙ ap (λ k. s.places.window - k) (held_from s w so.agree.places.next_end)
+  free_is : free ≡ s.places.window - held_bytes s w
+  free_is = ap (λ k. s.places.window - (s.places.end - k)) so.from_is ∙ ap (λ k. s.places.window - k) (held_from s w so.agree.places.next_end)
 
-  front-is : (reach.quit && eqb reach.taken 0) ≡ quit_front s piece
+  front_is : (reach.quit && eqb reach.taken 0) ≡ quit_front s piece
   unfolding reached quit_front before_quit
-  front-is = front (quit_place s.walk.settings.binary piece) (min free left) (length piece)
+  front_is = front (quit_place s.walk.settings.binary piece) (min free left) (length piece)
 
-  taking-is : taking s w piece ≡ Take reach.taken reach.quit
+  taking_is : taking s w piece ≡ Take reach.taken reach.quit
   unfolding taking fitting before_quit reached
-  taking-is = rw free-is
+  taking_is = rw free_is
 
-  planned-from : (o : OfferDecision) → OfferCase s w piece o → plan_of o from ≡ planned s w piece
-  planned-from o h = ap (plan_of o) so.from_is ∙ planned_is s w piece o h
+  planned_from : (o : OfferDecision) → OfferCase s w piece o → plan_of o from ≡ planned s w piece
+  planned_from o h = ap (plan_of o) so.from_is ∙ planned_is s w piece o h
 
-  pub path-front : (reach.quit && eqb reach.taken 0) ≡ true → Store from 0 true ≡ planned s w piece
-  path-front h =
+  pub path_front : (reach.quit && eqb reach.taken 0) ≡ true → Store from 0 true ≡ planned s w piece
+  path_front h =
       let both = (and-eq-true_iff reach.quit (eqb reach.taken 0)).0 h in
       let none : reach.taken ≡ 0 = eqb-true reach.taken 0 both.1 in
-      rw (taking-is, none, both.0) at (planned-from (taking s w piece) (quits sounds i (sym front-is ∙ h)))
+      rw (taking_is, none, both.0) at (planned_from (taking s w piece) (quits sounds i (sym front_is ∙ h)))
 
-  pub path-size : (reach.quit && eqb reach.taken 0) ≡ false → left ≡ 0 → Refuse 5 ≡ planned s w piece
-  path-size h k = planned-from (OfferRefused 5) (sized (sounds, i, sym front-is ∙ h) (omega arith))
+  pub path_size : (reach.quit && eqb reach.taken 0) ≡ false → left ≡ 0 → Refuse 5 ≡ planned s w piece
+  path_size h k = planned_from (OfferRefused 5) (sized (sounds, i, sym front_is ∙ h) (omega arith))
 
-  pub path-stuck : (reach.quit && eqb reach.taken 0) ≡ false → left ≢ 0 → (not (waits s w) && eqb free 0) ≡ true → Refuse 3 ≡ planned s w piece
-  path-stuck h k j =
+  pub path_stuck : (reach.quit && eqb reach.taken 0) ≡ false → left ≢ 0 → (not (waits s w) && eqb free 0) ≡ true → Refuse 3 ≡ planned s w piece
+  path_stuck h k j =
       let both = (and-eq-true_iff (not (waits s w)) (eqb free 0)).0 j in
-      planned-from (OfferRefused 3)
-      (full (sounds, i, sym front-is ∙ h) (omega (arith, some k)) (not-true (waits s w) both.0) (omega (arith, free-is, eqb-true free 0 both.1)))
+      planned_from (OfferRefused 3)
+      (full (sounds, i, sym front_is ∙ h) (omega (arith, some k)) (not-true (waits s w) both.0) (omega (arith, free_is, eqb-true free 0 both.1)))
 
-  pub path-take : (reach.quit && eqb reach.taken 0) ≡ false → left ≢ 0 → (not (waits s w) && eqb free 0) ≡ false
+  pub path_take : (reach.quit && eqb reach.taken 0) ≡ false → left ≢ 0 → (not (waits s w) && eqb free 0) ≡ false
       → Store from reach.taken reach.quit ≡ planned s w piece
-  path-take h k j =
-      rw taking-is at (planned-from (taking s w piece) (takes (sounds, i, sym front-is ∙ h) (omega (arith, some k)) (room (waits s w) (eqb free 0) refl refl j)))
+  path_take h k j =
+      rw taking_is at (planned_from (taking s w piece) (takes (sounds, i, sym front_is ∙ h) (omega (arith, some k)) (room (waits s w) (eqb free 0) refl refl j)))
     where
       room : (b f : Bool) → waits s w ≡ b → eqb free 0 ≡ f → (not b && f) ≡ false → (waits s w ≡ true) ⊎ (held_bytes s w < s.places.window)
       room true f v z j = inl v
       room false true v z j = absurd (false≢true (sym j))
-      room false false v z j = inr (omega (arith, free-is, some (eqb-false free 0 z)))
+      room false false v z j = inr (omega (arith, free_is, some (eqb-false free 0 z)))
 
 -- # What is stored
 
@@ -143,9 +143,9 @@ plan_nothing (Take m q) from h =
     absurd (omega arith)
 
 module _ (s : Session) (w piece : List ℕ) where
-  pub refused-is : (k : ℕ) → Refuse k ≡ planned s w piece → offering s w piece ≡ OfferRefused k
+  pub refused_is : (k : ℕ) → Refuse k ≡ planned s w piece → offering s w piece ≡ OfferRefused k
   unfolding planned
-  refused-is k h = plan_refuse (offering s w piece) (kept_from s w) k h
+  refused_is k h = plan_refuse (offering s w piece) (kept_from s w) k h
 
   pub nothing_is : Nothing ≡ planned s w piece → offering s w piece ≡ Idle
   unfolding planned
@@ -156,9 +156,9 @@ module _ (s : Session) (w piece : List ℕ) where
   store_is from n quit h = plan_store (offering s w piece) (kept_from s w) from n quit h
 
   -- what the decision to take says of the places
-  pub storing-of : (from n : ℕ) (quit : Bool) → Store from n quit ≡ planned s w piece → Storing s w piece from n
+  pub storing_of : (from n : ℕ) (quit : Bool) → Store from n quit ≡ planned s w piece → Storing s w piece from n
   unfolding before_quit held_bytes
-  storing-of from n quit h =
+  storing_of from n quit h =
       let is = store_is from n quit h in
       let taken : Taken s w piece n quit = subst (λ o. TakenIf s w piece o) is.0 (offer_taken s w piece) in
       let room = taken.room in

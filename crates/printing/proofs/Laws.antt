@@ -15,8 +15,8 @@ use Rattle.printing.specs.Texts.{four_text, newline, refused_text, row_most, row
 -- # Text behind text
 
 module _ (p : Pending) (text out : List ℕ) (q : Pending) (after : List ℕ) (e : (q ≡ collected p text out) × (after ≡ collected_in p text out)) where
-  pub put-tells : p.length + length text ≤ length out → Tells p out text q after
-  put-tells h = rw (e.0, e.1) (tells p text out h)
+  pub put_tells : p.length + length text ≤ length out → Tells p out text q after
+  put_tells h = rw (e.0, e.1) (tells p text out h)
 
 -- the same text, read otherwise
 pub tells_same : {p q : Pending} {out after xs ys : List ℕ} → xs ≡ ys → Tells p out xs q after → Tells p out ys q after

@@ -25,13 +25,13 @@ use Rattle.session.specs.Held.{held_bytes, is_open, kept_from, shown, since_line
 use Rattle.session.specs.Sound.{Agree, agrees, closed, places_agree, places_tests, sound, taken_bytes}
 use Rattle.session.proofs.Agree.{agrees_of}
 use Rattle.promises.proofs.Carry.{busy, fitting_some, front_quits, is_open_lem, not_front, not_idle}
-use Rattle.session.proofs.Cases.{OfferCase, unsound, idling, quits, sized, full, takes, offer-case, AnswerCase, few, gives, none, below, answer-case}
-use Rattle.promises.proofs.Only.{offer_only, answer-only}
+use Rattle.session.proofs.Cases.{OfferCase, unsound, idling, quits, sized, full, takes, offer_case, AnswerCase, few, gives, none, below, answer_case}
+use Rattle.promises.proofs.Only.{offer_only, answer_only}
 use Rattle.session.proofs.Cases as Cases
 use Rattle.promises.proofs.History.{answer_unchanged, answer_rows_most}
 use Rattle.promises.proofs.Invariant.{unanswered_length}
 use Rattle.session.proofs.Keeps.{GivenIf, TakenIf, answer_given, offer_taken, line_le, agree_answer, agree_offer, agree_opened, agree_told, served_fresh}
-use Rattle.promises.proofs.Taking.{stored-beyond, stored-length}
+use Rattle.promises.proofs.Taking.{stored_beyond, stored_length}
 
 -- # Reached sessions
 
@@ -84,7 +84,7 @@ refusals_change_nothing s w piece table hit c window =
 -- the other way: what is neither refused by 6, 5 nor 3 is served
 offer_back_0 : (s : Session) (w piece : List ℕ) → OfferServed s w piece → (offered s w piece).refusal ≡ 0
 unfolding offered taking
-offer_back_0 s w piece h = go (offering s w piece) (offer-case s w piece)
+offer_back_0 s w piece h = go (offering s w piece) (offer_case s w piece)
   where
     go : (o : OfferDecision) → OfferCase s w piece o → (offer_answer o s w piece).refusal ≡ 0
     go _ (unsound e) = absurd (true≢false (sym h.0 ∙ e))
@@ -102,7 +102,7 @@ offer_back_0 s w piece h = go (offering s w piece) (offer-case s w piece)
 offers_when : (s : Session) (w piece : List ℕ) → Offers s w piece
 unfolding offered offering
 offers_when s w piece =
-    let only = offer_only s w piece _ (offer-case s w piece) in
+    let only = offer_only s w piece _ (offer_case s w piece) in
     record {
       six = (only.0, λ e. rw e);
       five = (only.1, λ h. rw (h.0.0, h.0.1, h.0.2, le-leb max_input (taken_bytes s) h.1));
@@ -126,8 +126,8 @@ answer_back_6 s w table hit _ (gives e v b m) h =
 answers_when : (s : Session) (w table : List ℕ) (hit : Bool) → Answers s w table hit
 unfolding answered answering answering_since below_one answer_rows
 answers_when s w table hit =
-    let case = answer-case s w (length table) hit in
-    let only = answer-only s w (length table) hit _ case in
+    let case = answer_case s w (length table) hit in
+    let only = answer_only s w (length table) hit _ case in
     let need = row_size * length (answer_rows s w hit) in
     record {
       six = (only.0, answer_back_6 s w (length table) hit _ case);
@@ -229,7 +229,7 @@ progress_case s w piece _ (takes p m r) v n g h =
 
 pub progress : Progress
 unfolding offered
-progress s w piece v e g h = progress_case s w piece _ (offer-case s w piece) v e g h
+progress s w piece v e g h = progress_case s w piece _ (offer_case s w piece) v e g h
 
 flat_length : (rs : List Row) → length (flatten (map flat rs)) ≡ row_size * length rs
 unfolding flatten
@@ -262,7 +262,7 @@ unfolding stored
 window_stays_of s w piece (OfferRefused k) t = (refl, refl)
 window_stays_of s w piece Idle t = (refl, refl)
 window_stays_of s w piece (Take n quit) t =
-    (stored-length s w piece n t.agree t.room t.size, stored-beyond s w piece n t.agree t.room t.size)
+    (stored_length s w piece n t.agree t.room t.size, stored_beyond s w piece n t.agree t.room t.size)
 
 pub window_stays : WindowStays
 unfolding offered offered_window

@@ -20,7 +20,7 @@ use Rattle.promises.specs.Promises.{Within}
 use Rattle.session.specs.Sound.{Agree, ahead_bytes, taken_bytes}
 use Rattle.session.proofs.Agree.{agrees_of}
 use Rattle.session.proofs.Cases.{OfferCase, unsound, idling, quits, sized, full, takes}
-use Rattle.promises.proofs.Invariant.{Inv, sound-now, taken_is, unanswered_length}
+use Rattle.promises.proofs.Invariant.{Inv, sound_now, taken_is, unanswered_length}
 use Rattle.session.proofs.Keeps.{line_le, waiting_length}
 use Rattle.promises.proofs.Taking.{rest_text, take_uncut}
 use Rattle.session.proofs.Parts.{quit_le}
@@ -108,10 +108,10 @@ busy s piece h e g = rw (ne_eqb (length piece) 0 (λ z. omega arith), ap is_open
 module _ (input : List ℕ) (answers : ℕ → Bool) (s : Session) (w rest : List ℕ) (count : ℕ) (given : List Row)
     (i : Inv input answers s w rest count given) where
   -- a piece with bytes that no Quit byte leads has a byte of the text
-  pub more-text : (k : ℕ) → 0 < length (take k rest) → quit_front s (take k rest) ≡ false
+  pub more_text : (k : ℕ) → 0 < length (take k rest) → quit_front s (take k rest) ≡ false
       → (0 < before_quit s (take k rest)) × (0 < length (text s.walk.settings rest))
   unfolding quit_front
-  more-text k h q =
+  more_text k h q =
       let piece = take k rest in
       let c = s.walk.settings in
       let front = not_front (before_quit s piece) (length piece) h q in
@@ -121,8 +121,8 @@ module _ (input : List ℕ) (answers : ℕ → Bool) (s : Session) (w rest : Lis
       )
 
   -- within the size, bytes of the text that are left can be taken
-  pub size-left : Within s.walk.settings input → 0 < length (text s.walk.settings rest) → taken_bytes s < max_input
-  size-left h k =
+  pub size_left : Within s.walk.settings input → 0 < length (text s.walk.settings rest) → taken_bytes s < max_input
+  size_left h k =
       let c = s.walk.settings in
       omega (
         arith,
@@ -137,24 +137,24 @@ module _ (input : List ℕ) (answers : ℕ → Bool) (s : Session) (w rest : Lis
 
   -- # What is served
 
-  pub offer-served : Within s.walk.settings input → (k : ℕ) (o : OfferDecision) → OfferCase s w (take k rest) o
+  pub offer_served : Within s.walk.settings input → (k : ℕ) (o : OfferDecision) → OfferCase s w (take k rest) o
       → ((offer_answer o s w (take k rest)).refusal ≡ 0) ⊎ ((offer_answer o s w (take k rest)).refusal ≡ 3)
   unfolding taking
-  offer-served h k _ (unsound e) = absurd (true≢false (sym (sound-now input answers s w rest count given i) ∙ e))
-  offer-served h k _ (idling e d) = inl refl
-  offer-served h k _ (quits e d q) = inl refl
-  offer-served h k _ (sized p m) =
-      absurd (omega (arith, m, size-left h (more-text k (not_idle s (take k rest) p.1).0 p.2).1))
-  offer-served h k _ (full p m v f) = inr refl
-  offer-served h k _ (takes p m v) = inl refl
+  offer_served h k _ (unsound e) = absurd (true≢false (sym (sound_now input answers s w rest count given i) ∙ e))
+  offer_served h k _ (idling e d) = inl refl
+  offer_served h k _ (quits e d q) = inl refl
+  offer_served h k _ (sized p m) =
+      absurd (omega (arith, m, size_left h (more_text k (not_idle s (take k rest) p.1).0 p.2).1))
+  offer_served h k _ (full p m v f) = inr refl
+  offer_served h k _ (takes p m v) = inl refl
 
   pub told_served : (told s).refusal ≡ 0
   unfolding told
   told_served = rw (agrees_of s i.agree)
 
-  pub record-served : ((recorded s).refusal ≡ 0) ⊎ ((recorded s).refusal ≡ 7)
+  pub record_served : ((recorded s).refusal ≡ 0) ⊎ ((recorded s).refusal ≡ 7)
   unfolding recorded recording
-  record-served = rw (agrees_of s i.agree) (go (remains s))
+  record_served = rw (agrees_of s i.agree) (go (remains s))
     where
       go : (b : Bool) → (◌≡◌ {A = ℕ} (cond b 7 0) 0) ⊎ (◌≡◌ {A = ℕ} (cond b 7 0) 7)
       go true = inr refl
@@ -164,54 +164,54 @@ module _ (input : List ℕ) (answers : ℕ → Bool) (s : Session) (w rest : Lis
   unfolding recorded recording
   ends_now e = rw (agrees_of s i.agree, e)
 
-  pub waiting-now : waits s w ≡ true → waiting s w ≡ LineWaits
+  pub waiting_now : waits s w ≡ true → waiting s w ≡ LineWaits
   unfolding waiting
-  waiting-now v = rw (sound-now input answers s w rest count given i, v)
+  waiting_now v = rw (sound_now input answers s w rest count given i, v)
 
   -- # What is left gets lighter
 
-  pub offer-falls : waits s w ≡ false → s.places.input ≡ Open → s.walk.going ≡ On → (k : ℕ) → 0 < length (take k rest)
+  pub offer_falls : waits s w ≡ false → s.places.input ≡ Open → s.walk.going ≡ On → (k : ℕ) → 0 < length (take k rest)
       → (o : OfferDecision) → OfferCase s w (take k rest) o
       → ((offer_answer o s w (take k rest)).refusal ≡ 3)
       ⊎ (((offer_answer o s w (take k rest)).refusal ≡ 5)
       ⊎ (((offer_answer o s w (take k rest)).refusal ≡ 0)
       × (weight (offer_answer o s w (take k rest)).session (drop (offer_answer o s w (take k rest)).taken rest) < weight s rest)))
   unfolding taking
-  offer-falls v n g k l _ (unsound e) = absurd (true≢false (sym (sound-now input answers s w rest count given i) ∙ e))
-  offer-falls v n g k l _ (idling e d) = absurd (true≢false (sym d ∙ busy s (take k rest) l n g))
-  offer-falls v n g k l _ (quits e d q) =
+  offer_falls v n g k l _ (unsound e) = absurd (true≢false (sym (sound_now input answers s w rest count given i) ∙ e))
+  offer_falls v n g k l _ (idling e d) = absurd (true≢false (sym d ∙ busy s (take k rest) l n g))
+  offer_falls v n g k l _ (quits e d q) =
       inr (inr (
         refl,
         stored_falls s w (take k rest) rest i.agree n (fitting s w (take k rest)) _ (fitting_rest s w k rest)
             (inr (front_quits s w (take k rest) q)),
       ))
-  offer-falls v n g k l _ (sized p m) = inr (inl refl)
-  offer-falls v n g k l _ (full p m u f) = inl refl
-  offer-falls v n g k l _ (takes p m r) =
+  offer_falls v n g k l _ (sized p m) = inr (inl refl)
+  offer_falls v n g k l _ (full p m u f) = inl refl
+  offer_falls v n g k l _ (takes p m r) =
       let room : held_bytes s w < s.places.window = ⊎_elim (λ t. absurd (true≢false (sym t ∙ v))) (λ t. t) r in
-      let front = (more-text k (not_idle s (take k rest) p.1).0 p.2).0 in
+      let front = (more_text k (not_idle s (take k rest) p.1).0 p.2).0 in
       inr (inr (
         refl,
         stored_falls s w (take k rest) rest i.agree n (fitting s w (take k rest)) _ (fitting_rest s w k rest)
             (inl (fitting_some s w (take k rest) front room m)),
       ))
 
-  pub answer-falls : (hit : Bool) → waits s w ≡ true → weight (answer_session s w hit) rest < weight s rest
+  pub answer_falls : (hit : Bool) → waits s w ≡ true → weight (answer_session s w hit) rest < weight s rest
   unfolding weight answer_session places_next
-  answer-falls hit v = omega (arith, waiting_length s w v, line_le s w)
+  answer_falls hit v = omega (arith, waiting_length s w v, line_le s w)
 
-  toldSession-falls : s.places.input ≡ Open → s.walk.going ≡ On → weight (told_session s) rest < weight s rest
+  told_session_falls : s.places.input ≡ Open → s.walk.going ≡ On → weight (told_session s) rest < weight s rest
   unfolding weight told_session
-  toldSession-falls e g = omega (arith, ap₂ (λ k n. open_bit (input_told k n)) g e, ap open_bit e)
+  told_session_falls e g = omega (arith, ap₂ (λ k n. open_bit (input_told k n)) g e, ap open_bit e)
 
-  pub told-falls : s.places.input ≡ Open → s.walk.going ≡ On → weight (told s).session rest < weight s rest
+  pub told_falls : s.places.input ≡ Open → s.walk.going ≡ On → weight (told s).session rest < weight s rest
   unfolding told
-  told-falls e g = rw (agrees_of s i.agree) (toldSession-falls e g)
+  told_falls e g = rw (agrees_of s i.agree) (told_session_falls e g)
 
   -- once the input is no longer open, a run that goes on with no line waiting holds nothing unanswered
-  pub nothing-held : waits s w ≡ false → is_on s.walk.going ≡ true → is_open s.places.input ≡ false → s.places.end ≤ s.places.next
+  pub nothing_held : waits s w ≡ false → is_on s.walk.going ≡ true → is_open s.places.input ≡ false → s.places.end ≤ s.places.next
   unfolding waits waits_ahead
-  nothing-held v g o =
+  nothing_held v g o =
       let n = length (unanswered s w) in
       let e : (ltb (first_place s.walk.settings.terminator (unanswered s w)) n || ltb 0 n) ≡ false = rw (g, o) at v in
       omega (arith, ltb-false 0 n (or_false (ltb (first_place s.walk.settings.terminator (unanswered s w)) n) (ltb 0 n) e).1, unanswered_length s w i.agree i.window_is)

@@ -87,23 +87,23 @@ module _ (k : Binary) (t bytes count matches taken : ℕ) (past rest : List ℕ)
       (binary_place k t (cause_of g (quit_met k (past ++ rest))) bytes (past ++ rest))
 
   module _ (place_is : place ≡ replaced_in k t 0 past) (gone : bytes ≤ length past) where
-    same-other : (cause : ℕ) → eqb cause 1 ≡ false
+    same_other : (cause : ℕ) → eqb cause 1 ≡ false
         → end_with bytes count matches cause (under_convert k (gone_through place bytes)) ≡ end_with bytes count matches cause (binary_place k t cause bytes (past ++ rest))
-    same-other cause e =
+    same_other cause e =
         ap (end_with bytes count matches cause) (ap (λ p. under_convert k (gone_through p bytes)) place_is ∙ place_other k t bytes cause past rest gone e)
 
     same_stopped : (g : Going) (quit : Bool) → (g ≡ On → ⊥) → Same g quit
     same_stopped On quit h = absurd (h refl)
-    same_stopped LimitMet quit h = same-other 2 refl
-    same_stopped NonmatchMet quit h = same-other 3 refl
+    same_stopped LimitMet quit h = same_other 2 refl
+    same_stopped NonmatchMet quit h = same_other 3 refl
 
     same_ended : length (text_under k t past) ≡ length past → rest ≡ [] → Same On false
     same_ended uncut e =
         let none : quit_met k (past ++ rest) ≡ false = ap (λ xs. quit_met k (past ++ xs)) e ∙ ap (quit_met k) (append-nil past) ∙ quit_none k t past uncut in
-        rw none (same-other 0 refl)
+        rw none (same_other 0 refl)
 
-  same-quit : taken ≡ length past → length (text_under k t past) ≡ length past → quit_met k rest ≡ true → text_under k t rest ≡ [] → Same On true
-  same-quit taken_is uncut q e =
+  same_quit : taken ≡ length past → length (text_under k t past) ≡ length past → quit_met k rest ≡ true → text_under k t rest ≡ [] → Same On true
+  same_quit taken_is uncut q e =
       let met : quit_met k (past ++ rest) ≡ true = quit_later k t past rest uncut q in
       rw met (ap (end_with bytes count matches 1) (ap At taken_is ∙ place_quit k t bytes past rest uncut q e))
 
@@ -145,33 +145,33 @@ none_of_length (x ∷ xs) h = absurd (omega arith)
 
 module _ (input : List ℕ) (answers : ℕ → Bool) (s : Session) (w rest : List ℕ) (count : ℕ) (given : List Row)
     (i : Inv input answers s w rest count given) where
-  gone-le : s.walk.bytes ≤ length i.past
-  gone-le = omega (arith, i.uncut, ap length i.text_is, length-append (flatten i.gone) (unanswered s w), i.bytes_is)
+  gone_le : s.walk.bytes ≤ length i.past
+  gone_le = omega (arith, i.uncut, ap length i.text_is, length-append (flatten i.gone) (unanswered s w), i.bytes_is)
 
   abbrev SameAs : Going → Bool → Type 0
   SameAs =
       Same s.walk.settings.binary s.walk.settings.terminator s.walk.bytes s.walk.lines s.walk.matches (taken_bytes s) i.past rest s.places.replaced
 
-  same-now : (n : Input) → is_open n ≡ false → InputNow s.walk.settings n rest → SameAs On (is_quit n)
+  same_now : (n : Input) → is_open n ≡ false → InputNow s.walk.settings n rest → SameAs On (is_quit n)
   unfolding text
-  same-now Open o h = absurd (true≢false o)
-  same-now Ended o h =
+  same_now Open o h = absurd (true≢false o)
+  same_now Ended o h =
       same_ended s.walk.settings.binary s.walk.settings.terminator s.walk.bytes s.walk.lines s.walk.matches (taken_bytes s) i.past rest s.places.replaced
-      i.replaced_is gone-le i.uncut h
-  same-now QuitFound o h =
-      same-quit s.walk.settings.binary s.walk.settings.terminator s.walk.bytes s.walk.lines s.walk.matches (taken_bytes s) i.past rest s.places.replaced
+      i.replaced_is gone_le i.uncut h
+  same_now QuitFound o h =
+      same_quit s.walk.settings.binary s.walk.settings.terminator s.walk.bytes s.walk.lines s.walk.matches (taken_bytes s) i.past rest s.places.replaced
       (taken_is input answers s w rest count given i) i.uncut h.0 h.1
 
-  same-done : Done s → SameAs s.walk.going (is_quit s.places.input)
-  same-done (stopped h) =
+  same_done : Done s → SameAs s.walk.going (is_quit s.places.input)
+  same_done (stopped h) =
       same_stopped s.walk.settings.binary s.walk.settings.terminator s.walk.bytes s.walk.lines s.walk.matches (taken_bytes s) i.past rest s.places.replaced
-      i.replaced_is gone-le s.walk.going (is_quit s.places.input) h
-  same-done (ended g o l) = subst (λ k. SameAs k (is_quit s.places.input)) (sym g) (same-now s.places.input o i.input_now)
+      i.replaced_is gone_le s.walk.going (is_quit s.places.input) h
+  same_done (ended g o l) = subst (λ k. SameAs k (is_quit s.places.input)) (sym g) (same_now s.places.input o i.input_now)
 
   pub record_same : Done s → record_of s ≡ end_record s.walk.settings input s.walk.bytes s.walk.lines s.walk.matches s.walk.going
   unfolding record_of recorded_place walk_end end_record
   record_same d =
-      subst (λ (x : List ℕ). record_of s ≡ end_record s.walk.settings x s.walk.bytes s.walk.lines s.walk.matches s.walk.going) (sym i.input_is) (same-done d)
+      subst (λ (x : List ℕ). record_of s ≡ end_record s.walk.settings x s.walk.bytes s.walk.lines s.walk.matches s.walk.going) (sym i.input_is) (same_done d)
 
   -- the lines still to come
   abbrev pub later : List (List ℕ)
@@ -189,18 +189,18 @@ module _ (input : List ℕ) (answers : ℕ → Bool) (s : Session) (w rest : Lis
         ended_text s.walk.settings s.places.input rest o i.input_now,
       )
 
-  pub rows-done : Done s → rows s.walk.settings answers before later ≡ []
+  pub rows_done : Done s → rows s.walk.settings answers before later ≡ []
   unfolding rows
-  rows-done (stopped h) = rows_stopped s.walk.settings answers before later (λ k. h (going_is input answers s w rest count given i ∙ k))
-  rows-done (ended g o l) = ap (rows s.walk.settings answers before) (nothing_left o l)
+  rows_done (stopped h) = rows_stopped s.walk.settings answers before later (λ k. h (going_is input answers s w rest count given i ∙ k))
+  rows_done (ended g o l) = ap (rows s.walk.settings answers before) (nothing_left o l)
 
-  stays-done : Done s → state s.walk.settings answers before later ≡ before
+  stays_done : Done s → state s.walk.settings answers before later ≡ before
   unfolding state
-  stays-done (stopped h) = state_stopped s.walk.settings answers before later (λ k. h (going_is input answers s w rest count given i ∙ k))
-  stays-done (ended g o l) = ap (state s.walk.settings answers before) (nothing_left o l)
+  stays_done (stopped h) = state_stopped s.walk.settings answers before later (λ k. h (going_is input answers s w rest count given i ∙ k))
+  stays_done (ended g o l) = ap (state s.walk.settings answers before) (nothing_left o l)
 
-  pub state-done : Done s → state s.walk.settings answers (begun s.walk.settings) (lines s.walk.settings.terminator (text s.walk.settings input)) ≡ before
-  state-done d =
+  pub state_done : Done s → state s.walk.settings answers (begun s.walk.settings) (lines s.walk.settings.terminator (text s.walk.settings input)) ≡ before
+  state_done d =
       ap (state s.walk.settings answers (begun s.walk.settings)) i.lines_are
       ∙ state_append s.walk.settings answers (begun s.walk.settings) i.gone later
-      ∙ stays-done d
+      ∙ stays_done d

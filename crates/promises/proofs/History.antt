@@ -16,7 +16,7 @@ use Rattle.definition.specs.Rows.{row_size, rows_in}
 use Rattle.definition.specs.State.{State, fate_of, begun, rows, state, trim}
 use Rattle.definition.specs.Text.{first_place, lines, up_to}
 use Rattle.definition.proofs.Kept.{before≤kept, since_counted, step_rows_most}
-use Rattle.definition.proofs.Lists.{length-lastOf, rows_in_put}
+use Rattle.definition.proofs.Lists.{length_last_of, rows_in_put}
 use Rattle.definition.proofs.Terminator.{whole_none}
 use Rattle.driver_core.specs.Answer.{AnswerDecision, AnswerRefused, Give, answering_since, back_from, before_rows, below_one_since, put_rows, rows_since, state_since, walk_next}
 use Rattle.session.specs.declared.Input.{Input}
@@ -30,8 +30,8 @@ use Rattle.promises.specs.Promises.{kept_before}
 use Rattle.promises.specs.Run.{At, Run, Steps, here, offer, answer, ask, refused, tell, at_start}
 use Rattle.session.specs.Sound.{agrees, sound}
 use Rattle.session.proofs.Agree.{agrees_of}
-use Rattle.promises.proofs.Giving.{inv-given, text_none}
-use Rattle.promises.proofs.Invariant.{Inv, InputNow, sound-now}
+use Rattle.promises.proofs.Giving.{inv_given, text_none}
+use Rattle.promises.proofs.Invariant.{Inv, InputNow, sound_now}
 use Rattle.session.proofs.Keeps.{TakenIf, offer_taken, agree_fresh, agree_told_session, served_fresh}
 use Rattle.promises.proofs.Taking.{inv_taken}
 
@@ -103,75 +103,75 @@ module _ (input : List ℕ) (answers : ℕ → Bool) (s : Session) (w rest : Lis
     (i : Inv input answers s w rest count given) where
   -- # OfferDecision
 
-  inv-offer-of : (k : ℕ) (o : OfferDecision) → TakenIf s w (take k rest) o
+  inv_offer_of : (k : ℕ) (o : OfferDecision) → TakenIf s w (take k rest) o
       → Inv input answers (offer_answer o s w (take k rest)).session (offer_window o s w (take k rest))
       (drop (offer_answer o s w (take k rest)).taken rest) count given
-  inv-offer-of k (OfferRefused m) t = i
-  inv-offer-of k Idle t = i
-  inv-offer-of k (Take n quit) t = inv_taken input answers s w rest count given k n quit i t.room t.flag
+  inv_offer_of k (OfferRefused m) t = i
+  inv_offer_of k Idle t = i
+  inv_offer_of k (Take n quit) t = inv_taken input answers s w rest count given k n quit i t.room t.flag
 
-  pub inv-offer : (k : ℕ)
+  pub inv_offer : (k : ℕ)
       → Inv input answers (offered s w (take k rest)).session (offered_window s w (take k rest)) (drop (offered s w (take k rest)).taken rest) count given
   unfolding offered offered_window
-  inv-offer k = inv-offer-of k (offering s w (take k rest)) (offer_taken s w (take k rest))
+  inv_offer k = inv_offer_of k (offering s w (take k rest)) (offer_taken s w (take k rest))
 
   -- # AnswerDecision
 
   -- no before row's number falls below 1
-  since-le : length (last_of s.walk.settings.before (shown s w).since) ≤ s.walk.lines
+  since_le : length (last_of s.walk.settings.before (shown s w).since) ≤ s.walk.lines
   unfolding trim shown state_since since_lines
-  since-le =
+  since_le =
       let c = s.walk.settings in
       let b = state c answers (begun c) i.gone in
       let kept : length (last_of (kept_lines c) (shown s w).since) ≡ length (last_of (kept_lines c) b.since) = ap (λ (t : State). length t.since) i.state_is in
       let lines : s.walk.lines ≡ b.lines = ap (λ (t : State). t.lines) i.state_is in
       let counted = since_counted c answers (begun c) i.gone (begun_counted c) in
-      omega (arith, kept, lines, counted, before≤kept c, length-lastOf c.before (shown s w).since, length-lastOf (kept_lines c) (shown s w).since, length-lastOf (kept_lines c) b.since)
+      omega (arith, kept, lines, counted, before≤kept c, length_last_of c.before (shown s w).since, length_last_of (kept_lines c) (shown s w).since, length_last_of (kept_lines c) b.since)
 
-  before-le : (f : Fate) → before_rows f s.walk.settings (shown s w) ≤ s.walk.lines
-  before-le Match = since-le
-  before-le After = omega arith
-  before-le Other = omega arith
-  before-le NoRow = omega arith
+  before_le : (f : Fate) → before_rows f s.walk.settings (shown s w) ≤ s.walk.lines
+  before_le Match = since_le
+  before_le After = omega arith
+  before_le Other = omega arith
+  before_le NoRow = omega arith
 
-  pub not-below : (hit : Bool) → below_one s w hit ≡ false
+  pub not_below : (hit : Bool) → below_one s w hit ≡ false
   unfolding below_one below_one_since shown
-  not-below hit = le-ltb s.walk.lines (before_rows (fate_of s.walk.settings (shown s w) hit) s.walk.settings (shown s w)) (before-le (fate_of s.walk.settings (shown s w) hit))
+  not_below hit = le-ltb s.walk.lines (before_rows (fate_of s.walk.settings (shown s w) hit) s.walk.settings (shown s w)) (before_le (fate_of s.walk.settings (shown s w) hit))
 
   -- with room for B + 2 rows the answer to a waiting line is served
-  pub answer-gives : (table : ℕ) (hit : Bool) → waits s w ≡ true → row_size * (s.walk.settings.before + 2) ≤ table → answering s w table hit ≡ Give
+  pub answer_gives : (table : ℕ) (hit : Bool) → waits s w ≡ true → row_size * (s.walk.settings.before + 2) ≤ table → answering s w table hit ≡ Give
   unfolding answering answering_since below_one answer_rows
-  answer-gives table hit v r =
+  answer_gives table hit v r =
       let few = le-ltb table (row_size * length (answer_rows s w hit)) (omega (arith, r, answer_rows_most s w hit)) in
-      rw (sound-now input answers s w rest count given i, v, not-below hit, few)
+      rw (sound_now input answers s w rest count given i, v, not_below hit, few)
 
-  pub inv-answer : (table : List ℕ) → waiting s w ≡ LineWaits → row_size * (s.walk.settings.before + 2) ≤ length table
+  pub inv_answer : (table : List ℕ) → waiting s w ≡ LineWaits → row_size * (s.walk.settings.before + 2) ≤ length table
       → Inv input answers (answered s w table (answers (count + 1))).session w rest (count + 1)
       (given ++ rows_in (answered s w table (answers (count + 1))).rows (answered_table s w table (answers (count + 1))))
   unfolding answered answered_table
-  inv-answer table e r =
+  inv_answer table e r =
       let hit = answers (count + 1) in
       let v = (waiting_line s w e).1 in
-      rw (answer-gives (length table) hit v r, rows_in_table (answer_rows s w hit) table) (inv-given input answers s w rest count given i v)
+      rw (answer_gives (length table) hit v r, rows_in_table (answer_rows s w hit) table) (inv_given input answers s w rest count given i v)
 
-  pub inv-refused : (table : List ℕ) (hit : Bool) → ((answered s w table hit).refusal ≡ 0 → ⊥)
+  pub inv_refused : (table : List ℕ) (hit : Bool) → ((answered s w table hit).refusal ≡ 0 → ⊥)
       → Inv input answers (answered s w table hit).session w rest count given
   unfolding answered
-  inv-refused table hit n =
+  inv_refused table hit n =
       subst (λ x. Inv input answers x w rest count given) (sym (answer_unchanged (answering s w (length table) hit) s w table hit n).0) i
 
   -- # Telling the end
 
-  told-now : (g : Going) (n : Input) → (g ≡ On → n ≡ Open → rest ≡ []) → InputNow s.walk.settings n rest → InputNow s.walk.settings (input_told g n) rest
-  told-now On Open e h = e refl refl
-  told-now On Ended e h = h
-  told-now On QuitFound e h = h
-  told-now LimitMet n e h = h
-  told-now NonmatchMet n e h = h
+  told_now : (g : Going) (n : Input) → (g ≡ On → n ≡ Open → rest ≡ []) → InputNow s.walk.settings n rest → InputNow s.walk.settings (input_told g n) rest
+  told_now On Open e h = e refl refl
+  told_now On Ended e h = h
+  told_now On QuitFound e h = h
+  told_now LimitMet n e h = h
+  told_now NonmatchMet n e h = h
 
-  inv-toldSession : (s.walk.going ≡ On → s.places.input ≡ Open → rest ≡ []) → Inv input answers (told_session s) w rest count given
+  inv_told_session : (s.walk.going ≡ On → s.places.input ≡ Open → rest ≡ []) → Inv input answers (told_session s) w rest count given
   unfolding told_session unanswered shown state_since since_lines
-  inv-toldSession e =
+  inv_told_session e =
       record {
         past = i.past;
         gone = i.gone;
@@ -189,13 +189,13 @@ module _ (input : List ℕ) (answers : ℕ → Bool) (s : Session) (w rest : Lis
         whole = i.whole;
         fitted = i.fitted;
         replaced_is = i.replaced_is;
-        input_now = told-now s.walk.going s.places.input e i.input_now;
+        input_now = told_now s.walk.going s.places.input e i.input_now;
       }
 
-  pub inv-told : (s.walk.going ≡ On → s.places.input ≡ Open → rest ≡ []) → Inv input answers (told s).session w rest count given
+  pub inv_told : (s.walk.going ≡ On → s.places.input ≡ Open → rest ≡ []) → Inv input answers (told s).session w rest count given
   unfolding told
-  inv-told e =
-      subst (λ b. Inv input answers (cond b (told_session s) s) w rest count given) (sym (agrees_of s i.agree)) (inv-toldSession e)
+  inv_told e =
+      subst (λ b. Inv input answers (cond b (told_session s) s) w rest count given) (sym (agrees_of s i.agree)) (inv_told_session e)
 
 -- # A run
 
@@ -205,14 +205,14 @@ InvAt input answers a = Inv input answers a.session a.window a.rest a.count a.ro
 pub inv_steps : (input : List ℕ) (answers : ℕ → Bool) (from a : At) → InvAt input answers from → Steps answers from a → InvAt input answers a
 inv_steps input answers from _ i here = i
 inv_steps input answers from _ i (offer {a = b} k t) =
-    inv-offer input answers b.session b.window b.rest b.count b.rows (inv_steps input answers from b i t) k
+    inv_offer input answers b.session b.window b.rest b.count b.rows (inv_steps input answers from b i t) k
 inv_steps input answers from _ i (answer {a = b} table e r t) =
-    inv-answer input answers b.session b.window b.rest b.count b.rows (inv_steps input answers from b i t) table e r
+    inv_answer input answers b.session b.window b.rest b.count b.rows (inv_steps input answers from b i t) table e r
 inv_steps input answers from _ i (ask {a = b} t) = inv_steps input answers from b i t
 inv_steps input answers from _ i (refused {a = b} table hit n t) =
-    inv-refused input answers b.session b.window b.rest b.count b.rows (inv_steps input answers from b i t) table hit n
+    inv_refused input answers b.session b.window b.rest b.count b.rows (inv_steps input answers from b i t) table hit n
 inv_steps input answers from _ i (tell {a = b} e t) =
-    inv-told input answers b.session b.window b.rest b.count b.rows (inv_steps input answers from b i t) e
+    inv_told input answers b.session b.window b.rest b.count b.rows (inv_steps input answers from b i t) e
 
 pub inv_run : (c : Settings) (input : List ℕ) (answers : ℕ → Bool) (a : At) → Run c input answers a → InvAt input answers a
 unfolding Calls.opened

@@ -63,6 +63,6 @@ module _ (input : List ℕ) (answers : ℕ → Bool) (s : Session) (w rest : Lis
         unanswered_length s w i.agree i.window_is,
       )
 
-  pub sound-now : sound s (length w) ≡ true
+  pub sound_now : sound s (length w) ≡ true
   unfolding sound
-  sound-now = rw (agrees_of s i.agree, eq-eqb (length w) s.places.window i.window_is)
+  sound_now = rw (agrees_of s i.agree, eq-eqb (length w) s.places.window i.window_is)

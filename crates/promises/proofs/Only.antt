@@ -31,13 +31,13 @@ offer_only s w piece _ (takes p m v) = (never 0 6 refl, never 0 5 refl, never 0 
 
 module _ (s : Session) (w : List ℕ) (table : ℕ) (hit : Bool) where
   -- what each number says of an answer
-  pub answer-only : (o : AnswerDecision) → AnswerCase s w table hit o
+  pub answer_only : (o : AnswerDecision) → AnswerCase s w table hit o
       → let n = (answer_answer o s w hit).refusal in
       (n ≡ 6 → (sound s (length w) ≡ false) ⊎ ((waits s w ≡ false) ⊎ (below_one s w hit ≡ true)))
       × (n ≡ 4 → (sound s (length w) ≡ true) × (waits s w ≡ true) × (below_one s w hit ≡ false) × (table < row_size * length (answer_rows s w hit)))
       × (n ≡ 0 → (sound s (length w) ≡ true) × (waits s w ≡ true) × (below_one s w hit ≡ false) × (row_size * length (answer_rows s w hit) ≤ table))
-  answer-only _ (unsound e) = (λ z. inl e, never 6 4 refl, never 6 0 refl)
-  answer-only _ (none e v) = (λ z. inr (inl v), never 6 4 refl, never 6 0 refl)
-  answer-only _ (below e v b) = (λ z. inr (inr b), never 6 4 refl, never 6 0 refl)
-  answer-only _ (few e v b m) = (never 4 6 refl, λ z. (e, v, b, m), never 4 0 refl)
-  answer-only _ (gives e v b m) = (never 0 6 refl, never 0 4 refl, λ z. (e, v, b, m))
+  answer_only _ (unsound e) = (λ z. inl e, never 6 4 refl, never 6 0 refl)
+  answer_only _ (none e v) = (λ z. inr (inl v), never 6 4 refl, never 6 0 refl)
+  answer_only _ (below e v b) = (λ z. inr (inr b), never 6 4 refl, never 6 0 refl)
+  answer_only _ (few e v b m) = (never 4 6 refl, λ z. (e, v, b, m), never 4 0 refl)
+  answer_only _ (gives e v b m) = (never 0 6 refl, never 0 4 refl, λ z. (e, v, b, m))

@@ -19,13 +19,13 @@ use Rattle.session.specs.Held.{line_length, shown, since_lines, unanswered, wait
 use Rattle.promises.specs.Promises.{Account, Asked, Begins, Beginning, Prompt, Cut, Ends, Finished, Handed, Memory, NoRoom, Room, Served, TooLong, Within, answers_of}
 use Rattle.promises.specs.Run.{At, Run, Steps}
 use Rattle.session.specs.Sound.{sound}
-use Rattle.promises.proofs.Carry.{offer-served, record-served, told_served}
-use Rattle.session.proofs.Cases.{offer-case}
-use Rattle.promises.proofs.Finish.{record_same, rows-done, served_done, served_record, state-done}
+use Rattle.promises.proofs.Carry.{offer_served, record_served, told_served}
+use Rattle.session.proofs.Cases.{offer_case}
+use Rattle.promises.proofs.Finish.{record_same, rows_done, served_done, served_record, state_done}
 use Rattle.promises.proofs.Giving.{line, lines_now}
-use Rattle.promises.proofs.History.{answer-gives, inv_run, run_on, run_settings, steps_stay, waiting_line}
-use Rattle.promises.proofs.Invariant.{Inv, sound-now, taken_is}
-use Rattle.promises.proofs.Room.{cut-shorter, not-ended, not-past, same_count, too_long}
+use Rattle.promises.proofs.History.{answer_gives, inv_run, run_on, run_settings, steps_stay, waiting_line}
+use Rattle.promises.proofs.Invariant.{Inv, sound_now, taken_is}
+use Rattle.promises.proofs.Room.{cut_shorter, not_ended, not_past, same_count, too_long}
 use Rattle.promises.proofs.Soon.{carried}
 
 -- the part shown is the waiting line without its terminator
@@ -46,25 +46,25 @@ module _ (input : List ℕ) (answers : ℕ → Bool) (s : Session) (w rest : Lis
       ∙ rows_append c answers (begun c) i.gone later
       ∙ ap (λ (xs : List Row). xs ++ rows c answers (state c answers (begun c) i.gone) later) (sym i.rows_are)
 
-  pub finished-inv : (recorded s).refusal ≡ 0 → (given ≡ rows_of s.walk.settings input answers) × ((recorded s).end ≡ end_of s.walk.settings input answers)
+  pub finished_inv : (recorded s).refusal ≡ 0 → (given ≡ rows_of s.walk.settings input answers) × ((recorded s).end ≡ end_of s.walk.settings input answers)
   unfolding final_state trim shown state_since since_lines
-  finished-inv e =
+  finished_inv e =
       let c = s.walk.settings in
       let d = served_done s e in
       let record-at : State → _ = λ t. end_record c input t.bytes t.lines t.matches t.going in (
-        sym (rows_all ∙ ap (λ xs. given ++ xs) (rows-done input answers s w rest count given i d) ∙ append-nil given),
+        sym (rows_all ∙ ap (λ xs. given ++ xs) (rows_done input answers s w rest count given i d) ∙ append-nil given),
         served_record s e
             ∙ record_same input answers s w rest count given i d
             ∙ ap (λ (t : State). end_record c input t.bytes t.lines t.matches t.going) i.state_is
-            ∙ ap (λ (t : State). end_record c input t.bytes t.lines t.matches t.going) (sym (state-done input answers s w rest count given i d))
+            ∙ ap (λ (t : State). end_record c input t.bytes t.lines t.matches t.going) (sym (state_done input answers s w rest count given i d))
             ∙ sym (same_end c input answers),
       )
 
-  pub handed-inv : waiting s w ≡ LineWaits → (before : List (List ℕ)) × (l : List ℕ) × (later : List (List ℕ))
+  pub handed_inv : waiting s w ≡ LineWaits → (before : List (List ℕ)) × (l : List ℕ) × (later : List (List ℕ))
       × (lines s.walk.settings.terminator (text s.walk.settings input) ≡ before ++ (l ∷ later))
       × (length before ≡ count)
       × (shown_line s w ≡ handed s.walk.settings.terminator l)
-  handed-inv e =
+  handed_inv e =
       let v = (waiting_line s w e).1 in (
         i.gone,
         line s w,
@@ -78,7 +78,7 @@ pub finished : Finished
 finished c input answers a r e =
     let i = inv_run c input answers a r in
     subst (λ x. (a.rows ≡ rows_of x input answers) × ((recorded a.session).end ≡ end_of x input answers)) (run_settings c input answers a r)
-    (finished-inv input answers a.session a.window a.rest a.count a.rows i e)
+    (finished_inv input answers a.session a.window a.rest a.count a.rows i e)
 
 pub beginning : Beginning
 beginning c input answers a r =
@@ -110,7 +110,7 @@ handed_line c input answers a r e =
     × (lines x.terminator (text x input) ≡ before ++ (l ∷ later))
     × (length before ≡ a.count)
     × (shown_line a.session a.window ≡ handed x.terminator l)) (run_settings c input answers a r)
-    (handed-inv input answers a.session a.window a.rest a.count a.rows i e)
+    (handed_inv input answers a.session a.window a.rest a.count a.rows i e)
 
 -- the line after some others
 line_after : (before : List (List ℕ)) (l : List ℕ) (later : List (List ℕ)) (n : ℕ) → length before ≡ n
@@ -122,10 +122,10 @@ line_after before l later n e =
 
 module _ (matcher : List ℕ → Bool) (input : List ℕ) (s : Session) (w rest : List ℕ) (count : ℕ) (given : List Row)
     (i : Inv input (answers_of matcher s.walk.settings input) s w rest count given) where
-  pub asked-inv : waiting s w ≡ LineWaits → answers_of matcher s.walk.settings input (count + 1) ≡ matcher (shown_line s w)
+  pub asked_inv : waiting s w ≡ LineWaits → answers_of matcher s.walk.settings input (count + 1) ≡ matcher (shown_line s w)
   unfolding answers_of
-  asked-inv e =
-      let h = handed-inv input (answers_of matcher s.walk.settings input) s w rest count given i e in
+  asked_inv e =
+      let h = handed_inv input (answers_of matcher s.walk.settings input) s w rest count given i e in
       let t = s.walk.settings.terminator in
       ap (λ (x : List (List ℕ)). matcher (handed t (flatten (take 1 (drop (count + 1 - 1) x))))) h.3
       ∙ ap (λ (l : List ℕ). matcher (handed t l)) (line_after h.0 h.1 h.2 count h.4)
@@ -137,7 +137,7 @@ asked matcher c input a r e =
     let i = inv_run c input (answers_of matcher c input) a r in
     let j = subst (λ x. Inv input (answers_of matcher x input) a.session a.window a.rest a.count a.rows) (sym same) i in
     ap (λ x. answers_of matcher x input (a.count + 1)) (sym same)
-    ∙ asked-inv matcher input a.session a.window a.rest a.count a.rows j e
+    ∙ asked_inv matcher input a.session a.window a.rest a.count a.rows j e
 
 pub account : Account
 account c input answers a r =
@@ -160,8 +160,8 @@ account c input answers a r =
 -- # Carried on
 
 module _ (c : Settings) (input : List ℕ) (answers : ℕ → Bool) (a : At) (r : Run c input answers a) (h : Within c input) where
-  carried-run : (b : At) × Run c input answers b × Steps answers a b × (length b.window ≡ length a.window) × (Ends b ⊎ NoRoom b)
-  carried-run =
+  carried_run : (b : At) × Run c input answers b × Steps answers a b × (length b.window ≡ length a.window) × (Ends b ⊎ NoRoom b)
+  carried_run =
       let i = inv_run c input answers a r in
       let t = carried input answers a i (subst (λ x. Within x input) (sym (run_settings c input answers a r)) h) in
       let q = run_on c input answers a t.0 r t.1 in
@@ -170,43 +170,43 @@ module _ (c : Settings) (input : List ℕ) (answers : ℕ → Bool) (a : At) (r 
 
 -- the facts of the room rule, for the settings that a run was opened with
 module _ (c : Settings) (input : List ℕ) (answers : ℕ → Bool) (a : At) (r : Run c input answers a) where
-  run-too-long : NoRoom a → (t : TooLong c input answers (length a.window) a.count) × (a.rows ≡ (gone_lines c answers t.before).rows)
-  run-too-long n =
+  run_too_long : NoRoom a → (t : TooLong c input answers (length a.window) a.count) × (a.rows ≡ (gone_lines c answers t.before).rows)
+  run_too_long n =
       let i = inv_run c input answers a r in
       subst (λ x. (t : TooLong x input answers (length a.window) a.count) × (a.rows ≡ (gone_lines x answers t.before).rows))
       (run_settings c input answers a r)
       (too_long input answers a.session a.window a.rest a.count a.rows i n.0 n.1)
 
-  run-not-past : (n count : ℕ) → length a.window ≤ n → TooLong c input answers n count → a.count ≤ count
-  run-not-past n count h t =
+  run_not_past : (n count : ℕ) → length a.window ≤ n → TooLong c input answers n count → a.count ≤ count
+  run_not_past n count h t =
       let i = inv_run c input answers a r in
-      not-past input answers a.session a.window a.rest a.count a.rows i n count (omega (arith, h, i.window_is))
+      not_past input answers a.session a.window a.rest a.count a.rows i n count (omega (arith, h, i.window_is))
       (subst (λ x. TooLong x input answers n count) (sym (run_settings c input answers a r)) t)
 
-  run-not-ended : (n count : ℕ) → length a.window ≤ n → TooLong c input answers n count → Ends a → ⊥
-  run-not-ended n count h t e =
+  run_not_ended : (n count : ℕ) → length a.window ≤ n → TooLong c input answers n count → Ends a → ⊥
+  run_not_ended n count h t e =
       let i = inv_run c input answers a r in
-      not-ended input answers a.session a.window a.rest a.count a.rows i n count (omega (arith, h, i.window_is))
+      not_ended input answers a.session a.window a.rest a.count a.rows i n count (omega (arith, h, i.window_is))
       (subst (λ x. TooLong x input answers n count) (sym (run_settings c input answers a r)) t) (served_done a.session e)
 
 pub room : Room
 room c input answers a r =
     record {
-      only = run-too-long c input answers a r;
-      never_past = λ count t. run-not-past c input answers a r (length a.window) count (omega arith) t;
-      never_ends = λ count t. run-not-ended c input answers a r (length a.window) count (omega arith) t;
+      only = run_too_long c input answers a r;
+      never_past = λ count t. run_not_past c input answers a r (length a.window) count (omega arith) t;
+      never_ends = λ count t. run_not_ended c input answers a r (length a.window) count (omega arith) t;
       refused = refused;
     }
   where
     refused : Within c input → (count : ℕ) → TooLong c input answers (length a.window) count → (b : At) × Steps answers a b × NoRoom b × (b.count ≡ count)
     refused h count t =
-        let x = carried-run c input answers a r h in
+        let x = carried_run c input answers a r h in
         let b = x.0 in
         let q = x.1 in
         let size = x.3 in
-        ⊎_elim (λ e. absurd (run-not-ended c input answers b q (length a.window) count (omega (arith, size)) t e))
+        ⊎_elim (λ e. absurd (run_not_ended c input answers b q (length a.window) count (omega (arith, size)) t e))
         (λ n.
-        let u = subst (λ m. TooLong c input answers m b.count) size (run-too-long c input answers b q n).0 in (
+        let u = subst (λ m. TooLong c input answers m b.count) size (run_too_long c input answers b q n).0 in (
           b,
           x.2,
           n,
@@ -234,12 +234,12 @@ served c input answers a r h =
     let i = inv_run c input answers a r in
     let within = subst (λ x. Within x input) (sym (run_settings c input answers a r)) h in
     record {
-      offers = λ k. offer-served input answers s w a.rest a.count a.rows i within k _ (offer-case s w (take k a.rest));
-      asks = not_refused s w (sound-now input answers s w a.rest a.count a.rows i);
+      offers = λ k. offer_served input answers s w a.rest a.count a.rows i within k _ (offer_case s w (take k a.rest));
+      asks = not_refused s w (sound_now input answers s w a.rest a.count a.rows i);
       answering = λ table hit e room.
-          rw (answer-gives input answers s w a.rest a.count a.rows i (length table) hit (waiting_line s w e).1 room);
+          rw (answer_gives input answers s w a.rest a.count a.rows i (length table) hit (waiting_line s w e).1 room);
       tells = told_served input answers s w a.rest a.count a.rows i;
-      records = record-served input answers s w a.rest a.count a.rows i;
+      records = record_served input answers s w a.rest a.count a.rows i;
       carries = carried input answers a i within;
     }
 
@@ -247,10 +247,10 @@ served c input answers a r h =
 begins_both : (xs ys zs : List Row) → Begins xs zs → Begins ys zs → Begins xs ys ⊎ Begins ys xs
 begins_both xs ys zs p q = elim (dec_le (length xs) (length ys)) [
   | yes k ↦
-      let m = cut-shorter xs p.0 ys q.0 (p.1 ∙ sym q.1) k in
+      let m = cut_shorter xs p.0 ys q.0 (p.1 ∙ sym q.1) k in
       inl (m.0, sym m.1)
   | no k ↦
-      let m = cut-shorter ys q.0 xs p.0 (q.1 ∙ sym p.1) (omega arith) in
+      let m = cut_shorter ys q.0 xs p.0 (q.1 ∙ sym p.1) (omega arith) in
       inr (m.0, sym m.1)
 ]
 
@@ -261,8 +261,8 @@ memory c input answers a b r q =
     longer : Within c input → Ends a → length a.window ≤ length b.window
         → (x : At) × Steps answers b x × Ends x × (x.rows ≡ a.rows) × ((recorded x.session).end ≡ (recorded a.session).end)
     longer h e l =
-        let t = carried-run c input answers b q h in
+        let t = carried_run c input answers b q h in
         let x = t.0 in
         ⊎_elim (λ f. let same = cut c input answers x a t.1 r f e in (x, t.2, f, same.0, same.1))
-        (λ n. absurd (run-not-ended c input answers a r (length x.window) x.count (omega (arith, l, t.3)) (run-too-long c input answers x t.1 n).0 e))
+        (λ n. absurd (run_not_ended c input answers a r (length x.window) x.count (omega (arith, l, t.3)) (run_too_long c input answers x t.1 n).0 e))
         t.4

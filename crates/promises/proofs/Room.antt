@@ -16,30 +16,30 @@ use Rattle.session.specs.declared.Session.{Session}
 use Rattle.session.specs.Calls.{offered}
 use Rattle.session.specs.Held.{held_bytes, is_open, kept_bytes, unanswered, waits}
 use Rattle.promises.specs.Promises.{Fitted, TooLong, kept_before}
-use Rattle.promises.proofs.Carry.{more-text, not_idle, or_false}
-use Rattle.session.proofs.Cases.{offer-case}
+use Rattle.promises.proofs.Carry.{more_text, not_idle, or_false}
+use Rattle.session.proofs.Cases.{offer_case}
 use Rattle.promises.proofs.Only.{offer_only}
 use Rattle.promises.proofs.Finish.{Done, stopped, ended, nothing_left}
-use Rattle.promises.proofs.Giving.{going_is, kept-before}
+use Rattle.promises.proofs.Giving.{going_is, kept_before_lem}
 use Rattle.promises.proofs.Invariant.{Inv, unanswered_length}
 
 -- # Beginnings of a list
 
 module _ {A : Type 0} where
   -- of two ways to cut a list the longer beginning holds the shorter and what follows it ..
-  pub cut-longer : (xs ys zs : List A) (l : A) (ws : List A) → xs ++ ys ≡ zs ++ (l ∷ ws) → length zs < length xs → (m : List A) × (xs ≡ zs ++ (l ∷ m))
-  cut-longer [] ys zs l ws e h = absurd (omega arith)
-  cut-longer (x ∷ xs) ys [] l ws e h = (xs, ap (λ v. v ∷ xs) (head-eq_of_cons-eq e))
-  cut-longer (x ∷ xs) ys (z ∷ zs) l ws e h =
-      let r = cut-longer xs ys zs l ws (tail-eq_of_cons-eq e) (omega arith) in
+  pub cut_longer : (xs ys zs : List A) (l : A) (ws : List A) → xs ++ ys ≡ zs ++ (l ∷ ws) → length zs < length xs → (m : List A) × (xs ≡ zs ++ (l ∷ m))
+  cut_longer [] ys zs l ws e h = absurd (omega arith)
+  cut_longer (x ∷ xs) ys [] l ws e h = (xs, ap (λ v. v ∷ xs) (head-eq_of_cons-eq e))
+  cut_longer (x ∷ xs) ys (z ∷ zs) l ws e h =
+      let r = cut_longer xs ys zs l ws (tail-eq_of_cons-eq e) (omega arith) in
       (r.0, ap₂ {C = List A} (λ v vs. v ∷ vs) (head-eq_of_cons-eq e) r.1)
 
   -- .. and the other way round
-  pub cut-shorter : (xs ys zs ws : List A) → xs ++ ys ≡ zs ++ ws → length xs ≤ length zs → (m : List A) × (zs ≡ xs ++ m)
-  cut-shorter [] ys zs ws e h = (zs, refl)
-  cut-shorter (x ∷ xs) ys [] ws e h = absurd (omega arith)
-  cut-shorter (x ∷ xs) ys (z ∷ zs) ws e h =
-      let r = cut-shorter xs ys zs ws (tail-eq_of_cons-eq e) (omega arith) in
+  pub cut_shorter : (xs ys zs ws : List A) → xs ++ ys ≡ zs ++ ws → length xs ≤ length zs → (m : List A) × (zs ≡ xs ++ m)
+  cut_shorter [] ys zs ws e h = (zs, refl)
+  cut_shorter (x ∷ xs) ys [] ws e h = absurd (omega arith)
+  cut_shorter (x ∷ xs) ys (z ∷ zs) ws e h =
+      let r = cut_shorter xs ys zs ws (tail-eq_of_cons-eq e) (omega arith) in
       (r.0, ap₂ {C = List A} (λ v vs. v ∷ vs) (sym (head-eq_of_cons-eq e)) r.1)
 
 -- # The first line that does not fit is one
@@ -48,7 +48,7 @@ pub same_count : (c : Settings) (input : List ℕ) (answers : ℕ → Bool) (n p
 same_count c input answers n p q t u = elim (dec_lt p q) [
   | yes k ↦
       let m =
-      cut-longer u.before (u.line ∷ u.later) t.before t.line t.later (sym u.lines_are ∙ t.lines_are)
+      cut_longer u.before (u.line ∷ u.later) t.before t.line t.later (sym u.lines_are ∙ t.lines_are)
       (omega (arith, t.count_is, u.count_is))
       in
       absurd (omega (arith, u.fitted t.before t.line m.0 m.1, t.exceeds))
@@ -71,9 +71,9 @@ over s w h n kept len e k l = omega arith
 module _ (input : List ℕ) (answers : ℕ → Bool) (s : Session) (w rest : List ℕ) (count : ℕ) (given : List Row)
     (i : Inv input answers s w rest count given) where
   -- while no line waits and the input is open the bytes held hold no terminator
-  pub no-terminator : waits s w ≡ false → s.walk.going ≡ On → length (unanswered s w) ≤ first_place s.walk.settings.terminator (unanswered s w)
+  pub no_terminator : waits s w ≡ false → s.walk.going ≡ On → length (unanswered s w) ≤ first_place s.walk.settings.terminator (unanswered s w)
   unfolding waits waits_ahead
-  no-terminator v g =
+  no_terminator v g =
       let u = unanswered s w in
       let p = first_place s.walk.settings.terminator u in
       let e : (ltb p (length u) || (not (is_open s.places.input) && ltb 0 (length u))) ≡ false = rw (ap is_on g) at v in
@@ -87,14 +87,14 @@ module _ (input : List ℕ) (answers : ℕ → Bool) (s : Session) (w rest : Lis
       let t = c.terminator in
       let u = unanswered s w in
       let v = text c rest in
-      let f = (offer_only s w (take k rest) _ (offer-case s w (take k rest))).2 e in
+      let f = (offer_only s w (take k rest) _ (offer_case s w (take k rest))).2 e in
       let idle = not_idle s (take k rest) f.0.1 in
-      let some = (more-text input answers s w rest count given i k idle.0 f.0.2).1 in
+      let some = (more_text input answers s w rest count given i k idle.0 f.0.2).1 in
       let joined = length-append u v in
-      let longer = longer_line t u v (no-terminator f.2 idle.2) some in
+      let longer = longer_line t u v (no_terminator f.2 idle.2) some in
       let n = first_length t (u ++ v) in
       let size = unanswered_length s w i.agree i.window_is in
-      let kept = kept-before input answers s w rest count given i in (
+      let kept = kept_before_lem input answers s w rest count given i in (
         record {
           before = i.gone;
           line = take n (u ++ v);
@@ -110,11 +110,11 @@ module _ (input : List ℕ) (answers : ℕ → Bool) (s : Session) (w rest : Lis
 
   -- # No run gets past
 
-  pub not-past : (n c : ℕ) → s.places.window ≤ n → TooLong s.walk.settings input answers n c → count ≤ c
-  not-past n c h t = elim (dec_lt c count) [
+  pub not_past : (n c : ℕ) → s.places.window ≤ n → TooLong s.walk.settings input answers n c → count ≤ c
+  not_past n c h t = elim (dec_lt c count) [
     | yes k ↦
         let m =
-        cut-longer i.gone (lines s.walk.settings.terminator (unanswered s w ++ text s.walk.settings rest)) t.before t.line t.later
+        cut_longer i.gone (lines s.walk.settings.terminator (unanswered s w ++ text s.walk.settings rest)) t.before t.line t.later
         (sym i.lines_are ∙ t.lines_are) (omega (arith, t.count_is, i.count_is))
         in
         absurd (omega (arith, i.fitted t.before t.line m.0 m.1, t.exceeds))
@@ -122,15 +122,15 @@ module _ (input : List ℕ) (answers : ℕ → Bool) (s : Session) (w rest : Lis
   ]
 
   -- and no run ends before it
-  pub not-ended : (n c : ℕ) → s.places.window ≤ n → TooLong s.walk.settings input answers n c → Done s → ⊥
-  not-ended n c h t (ended g o l) =
+  pub not_ended : (n c : ℕ) → s.places.window ≤ n → TooLong s.walk.settings input answers n c → Done s → ⊥
+  not_ended n c h t (ended g o l) =
       let none = nothing_left input answers s w rest count given i o l in
       let all : lines s.walk.settings.terminator (text s.walk.settings input) ≡ i.gone = i.lines_are ∙ ap (λ xs. i.gone ++ xs) none ∙ append-nil i.gone in
-      omega (arith, not-past n c h t, i.count_is, t.count_is, ap length (sym all ∙ t.lines_are), length-append t.before (t.line ∷ t.later))
-  not-ended n c h t (stopped g) =
+      omega (arith, not_past n c h t, i.count_is, t.count_is, ap length (sym all ∙ t.lines_are), length-append t.before (t.line ∷ t.later))
+  not_ended n c h t (stopped g) =
       let m =
-      cut-shorter i.gone (lines s.walk.settings.terminator (unanswered s w ++ text s.walk.settings rest)) t.before (t.line ∷ t.later)
-      (sym i.lines_are ∙ t.lines_are) (omega (arith, not-past n c h t, i.count_is, t.count_is))
+      cut_shorter i.gone (lines s.walk.settings.terminator (unanswered s w ++ text s.walk.settings rest)) t.before (t.line ∷ t.later)
+      (sym i.lines_are ∙ t.lines_are) (omega (arith, not_past n c h t, i.count_is, t.count_is))
       in
       let k = s.walk.settings in
       let b = state k answers (begun k) i.gone in

@@ -15,9 +15,9 @@ use Rattle.promises.specs.Run.{At, Steps, here, offer, answer, tell, at_answer, 
 use Rattle.promises.specs.Soon.{NoSize, Soon, calls_from, next_call}
 use Rattle.session.specs.Sound.{ahead_bytes}
 use Rattle.promises.proofs.Caller.{offer_unchanged}
-use Rattle.promises.proofs.Carry.{answer-falls, ends_now, held_ends, is_open_lem, nothing-held, offer-falls, offer-served, open_most, stopped_ends, told-falls, waiting-now, weight}
-use Rattle.session.proofs.Cases.{offer-case}
-use Rattle.promises.proofs.History.{InvAt, answer-gives, inv_run, inv_steps, join, run_settings, steps_stay}
+use Rattle.promises.proofs.Carry.{answer_falls, ends_now, held_ends, is_open_lem, nothing_held, offer_falls, offer_served, open_most, stopped_ends, told_falls, waiting_now, weight}
+use Rattle.session.proofs.Cases.{offer_case}
+use Rattle.promises.proofs.History.{InvAt, answer_gives, inv_run, inv_steps, join, run_settings, steps_stay}
 
 -- # One call
 
@@ -45,37 +45,37 @@ module _ (input : List ℕ) (answers : ℕ → Bool) (table : List ℕ) (a : At)
   abbrev Turned : At → Type 0
   Turned b = Steps answers a b × ((Over a × (b ≡ a)) ⊎ (weight b.session b.rest < weight a.session a.rest))
 
-  answer-turn : waits a.session a.window ≡ true → Turned (at_answer answers table a)
+  answer_turn : waits a.session a.window ≡ true → Turned (at_answer answers table a)
   unfolding answered
-  answer-turn v =
+  answer_turn v =
       let s = a.session in
       let w = a.window in
       let hit = answers (a.count + 1) in
-      let gives = answer-gives input answers s w a.rest a.count a.rows i (length table) hit v room in (
-        answer table (waiting-now input answers s w a.rest a.count a.rows i v) room here,
-        inr (rw gives (answer-falls input answers s w a.rest a.count a.rows i hit v)),
+      let gives = answer_gives input answers s w a.rest a.count a.rows i (length table) hit v room in (
+        answer table (waiting_now input answers s w a.rest a.count a.rows i v) room here,
+        inr (rw gives (answer_falls input answers s w a.rest a.count a.rows i hit v)),
       )
 
-  offer-turn : waits a.session a.window ≡ false → a.session.places.input ≡ Open → a.session.walk.going ≡ On → 0 < length a.rest
+  offer_turn : waits a.session a.window ≡ false → a.session.places.input ≡ Open → a.session.walk.going ≡ On → 0 < length a.rest
       → Turned (at_offer (length a.rest) a)
   unfolding offered
-  offer-turn v n g l =
+  offer_turn v n g l =
       let s = a.session in
       let w = a.window in
       let k = length a.rest in
-      let case = offer-case s w (take k a.rest) in (
+      let case = offer_case s w (take k a.rest) in (
         offer k here,
         ⊎_elim (λ e. inl (inr (inl (k, e)), offer_same k a (λ z. omega (arith, e, z))))
             (⊎_elim (λ e. inl (inr (inr (k, e)), offer_same k a (λ z. omega (arith, e, z)))) (λ e. inr e.1))
-            (offer-falls input answers s w a.rest a.count a.rows i v n g k (omega (arith, l, length-take k a.rest)) _ case),
+            (offer_falls input answers s w a.rest a.count a.rows i v n g k (omega (arith, l, length-take k a.rest)) _ case),
       )
 
-  tell-turn : a.session.places.input ≡ Open → a.session.walk.going ≡ On → a.rest ≡ [] → Turned (at_end a)
-  tell-turn n g e =
-      (tell (λ _ _. e) here, inr (told-falls input answers a.session a.window a.rest a.count a.rows i n g))
+  tell_turn : a.session.places.input ≡ Open → a.session.walk.going ≡ On → a.rest ≡ [] → Turned (at_end a)
+  tell_turn n g e =
+      (tell (λ _ _. e) here, inr (told_falls input answers a.session a.window a.rest a.count a.rows i n g))
 
-  nothing-turn : remains a.session ≡ false → Turned a
-  nothing-turn e = (here, inl (inl (ends_now input answers a.session a.window a.rest a.count a.rows i e), refl))
+  nothing_turn : remains a.session ≡ false → Turned a
+  nothing_turn e = (here, inl (inl (ends_now input answers a.session a.window a.rest a.count a.rows i e), refl))
 
   turn : Turned (next_call answers table a)
   unfolding next_call
@@ -86,14 +86,14 @@ module _ (input : List ℕ) (answers : ℕ → Bool) (table : List ℕ) (a : At)
       go : (v : Bool) → waits a.session a.window ≡ v → (g : Bool) → is_on a.session.walk.going ≡ g → (o : Bool) → is_open a.session.places.input ≡ o
           → (z : Bool) → eqb (length a.rest) 0 ≡ z
           → Turned (cond v (at_answer answers table a) (cond (g && o) (cond z (at_end a) (at_offer (length a.rest) a)) a))
-      go true v g e o k z r = answer-turn v
-      go false v false e o k z r = nothing-turn (stopped_ends a.session e)
+      go true v g e o k z r = answer_turn v
+      go false v false e o k z r = nothing_turn (stopped_ends a.session e)
       go false v true e false k z r =
-          nothing-turn (held_ends a.session k (nothing-held input answers a.session a.window a.rest a.count a.rows i v e k))
+          nothing_turn (held_ends a.session k (nothing_held input answers a.session a.window a.rest a.count a.rows i v e k))
       go false v true e true k true r =
-          tell-turn (is_open_lem a.session.places.input k) (is_on_lem a.session.walk.going e) (none a.rest (eqb-true (length a.rest) 0 r))
+          tell_turn (is_open_lem a.session.places.input k) (is_on_lem a.session.walk.going e) (none a.rest (eqb-true (length a.rest) 0 r))
       go false v true e true k false r =
-          offer-turn v (is_open_lem a.session.places.input k) (is_on_lem a.session.walk.going e) (omega (arith, eqb-false (length a.rest) 0 r))
+          offer_turn v (is_open_lem a.session.places.input k) (is_on_lem a.session.walk.going e) (omega (arith, eqb-false (length a.rest) 0 r))
 
 -- # Call after call
 
@@ -104,8 +104,8 @@ module _ (input : List ℕ) (answers : ℕ → Bool) (table : List ℕ) where
   stays zero a e = refl
   stays (suc n) a e = ap (calls_from n answers table) e ∙ stays n a e
 
-  roomy-on : (a b : At) → Steps answers a b → Roomy table a → Roomy table b
-  roomy-on a b t = subst (λ c. row_size * (c.before + 2) ≤ length table) (sym (steps_stay answers a b t).0)
+  roomy_on : (a b : At) → Steps answers a b → Roomy table a → Roomy table b
+  roomy_on a b t = subst (λ c. row_size * (c.before + 2) ≤ length table) (sym (steps_stay answers a b t).0)
 
   steps_on : (n : ℕ) (a : At) → InvAt input answers a → Roomy table a → Steps answers a (calls_from n answers table a)
   unfolding calls_from
@@ -113,7 +113,7 @@ module _ (input : List ℕ) (answers : ℕ → Bool) (table : List ℕ) where
   steps_on (suc n) a i r =
       let b = next_call answers table a in
       let t = (turn input answers table a i r).0 in
-      join answers a b (calls_from n answers table b) t (steps_on n b (inv_steps input answers a b i t) (roomy-on a b t r))
+      join answers a b (calls_from n answers table b) t (steps_on n b (inv_steps input answers a b i t) (roomy_on a b t r))
 
   over_by : (n : ℕ) (a : At) → InvAt input answers a → Roomy table a → weight a.session a.rest ≤ n → Over (calls_from n answers table a)
   unfolding calls_from
@@ -122,7 +122,7 @@ module _ (input : List ℕ) (answers : ℕ → Bool) (table : List ℕ) where
       let b = next_call answers table a in
       let t = turn input answers table a i r in
       ⊎_elim (λ o. subst Over (sym (stays (suc n) a o.1)) o.0)
-      (λ f. over_by n b (inv_steps input answers a b i t.0) (roomy-on a b t.0 r) (omega (arith, l, f)))
+      (λ f. over_by n b (inv_steps input answers a b i t.0) (roomy_on a b t.0 r) (omega (arith, l, f)))
       t.1
 
 -- within the size no offer is refused by 5
@@ -133,7 +133,7 @@ within_room input answers a i h (inr (inl n)) = inr n
 within_room input answers a i h (inr (inr (k, e))) =
     let piece = take k a.rest in
     absurd (⊎_elim (λ z. omega (arith, e, z)) (λ z. omega (arith, e, z))
-    (offer-served input answers a.session a.window a.rest a.count a.rows i h k _ (offer-case a.session a.window piece)))
+    (offer_served input answers a.session a.window a.rest a.count a.rows i h k _ (offer_case a.session a.window piece)))
 
 within_on : (input : List ℕ) (answers : ℕ → Bool) (a b : At) → Steps answers a b → Within a.session.walk.settings input → Within b.session.walk.settings input
 within_on input answers a b t = subst (λ c. Within c input) (sym (steps_stay answers a b t).0)

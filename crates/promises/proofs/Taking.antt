@@ -10,7 +10,7 @@ use Rattle.definition.specs.declared.Place.TheVariants.{Nowhere, At}
 use Rattle.definition.specs.Definition.{last_of, quit_met, kept_lines}
 use Rattle.definition.specs.State.{trim}
 use Rattle.definition.specs.Text.{first_place, lines, part, text, text_under, up_to}
-use Rattle.definition.proofs.Lists.{lastOf-lastOf}
+use Rattle.definition.proofs.Lists.{last_of_last_of}
 use Rattle.definition.proofs.Terminator.{first_append, first_append_none, lines_drop, Whole, whole_drop}
 use Rattle.definition.proofs.Uncut.{Uncut, length_replaced, text_append, uncut_append, up_to_drop, up_to_take}
 use Rattle.driver_core.specs.Answer.{back_from, state_since}
@@ -94,62 +94,62 @@ replaced_append (Convert b) t xs ys = go (eqb b t)
 -- # The window after taking
 
 module _ (s : Session) (w piece : List ℕ) (n : ℕ) (a : Agree s) (r : Room s w piece n) (size : length w ≡ s.places.window) where
-  new-length : length (text s.walk.settings (take n piece)) ≡ n
+  new_length : length (text s.walk.settings (take n piece)) ≡ n
   unfolding before_quit
-  new-length = take_uncut s n piece r.quit ∙ omega (arith, length-take n piece, quit_le s.walk.settings.binary piece, r.quit)
+  new_length = take_uncut s n piece r.quit ∙ omega (arith, length-take n piece, quit_le s.walk.settings.binary piece, r.quit)
 
   from_le : kept_from s w ≤ s.places.next
   unfolding kept_from
   from_le = omega arith
 
-  window-parts : stored_window s w piece n
+  window_parts : stored_window s w piece n
       ≡ part (kept_from s w) s.places.next w ++ (unanswered s w ++ (text s.walk.settings (take n piece) ++ drop (s.places.end - kept_from s w + n) w))
   unfolding stored_window unanswered
-  window-parts =
+  window_parts =
       rw (part_split (kept_from s w) s.places.next s.places.end w from_le a.places.next_end)
       (append_assoc (part (kept_from s w) s.places.next w) (part s.places.next s.places.end w) _)
 
-  kept-length : length (part (kept_from s w) s.places.next w) ≡ s.places.next - kept_from s w
-  kept-length = part_length (kept_from s w) s.places.next w from_le (omega (arith, a, size))
+  kept_length : length (part (kept_from s w) s.places.next w) ≡ s.places.next - kept_from s w
+  kept_length = part_length (kept_from s w) s.places.next w from_le (omega (arith, a, size))
 
-  stored-kept : part 0 (s.places.next - kept_from s w) (stored_window s w piece n) ≡ part (kept_from s w) s.places.next w
-  stored-kept =
+  stored_kept : part 0 (s.places.next - kept_from s w) (stored_window s w piece n) ≡ part (kept_from s w) s.places.next w
+  stored_kept =
       let z : s.places.next - kept_from s w - 0 ≡ s.places.next - kept_from s w = omega arith in
-      rw (z, window-parts) (take_at (part (kept_from s w) s.places.next w) _ (s.places.next - kept_from s w) kept-length)
+      rw (z, window_parts) (take_at (part (kept_from s w) s.places.next w) _ (s.places.next - kept_from s w) kept_length)
 
-  stored-part : part (s.places.next - kept_from s w) (s.places.end - kept_from s w + n) (stored_window s w piece n)
+  stored_part : part (s.places.next - kept_from s w) (s.places.end - kept_from s w + n) (stored_window s w piece n)
       ≡ unanswered s w ++ text s.walk.settings (take n piece)
-  stored-part =
+  stored_part =
       let kept = part (kept_from s w) s.places.next w in
       let old = unanswered s w in
       let new = text s.walk.settings (take n piece) in
       let tail = drop (s.places.end - kept_from s w + n) w in
       let m : s.places.end - kept_from s w + n - (s.places.next - kept_from s w) ≡ length (old ++ new) =
-      omega (arith, from_le, a.places.next_end, length-append old new, unanswered_length s w a size, new-length)
+      omega (arith, from_le, a.places.next_end, length-append old new, unanswered_length s w a size, new_length)
       in
-      rw (window-parts, drop_at kept (old ++ (new ++ tail)) (s.places.next - kept_from s w) kept-length, m)
+      rw (window_parts, drop_at kept (old ++ (new ++ tail)) (s.places.next - kept_from s w) kept_length, m)
       (ap (λ xs. take (length (old ++ new)) xs) (sym (append_assoc old new tail)) ∙ take_at (old ++ new) tail (length (old ++ new)) refl)
 
-  pub stored-unanswered : (quit : Bool) → unanswered (stored s w piece n quit) (stored_window s w piece n) ≡ unanswered s w ++ text s.walk.settings (take n piece)
+  pub stored_unanswered : (quit : Bool) → unanswered (stored s w piece n quit) (stored_window s w piece n) ≡ unanswered s w ++ text s.walk.settings (take n piece)
   unfolding stored unanswered
-  stored-unanswered quit = stored-part
+  stored_unanswered quit = stored_part
 
-  pub stored-length : length (stored_window s w piece n) ≡ length w
+  pub stored_length : length (stored_window s w piece n) ≡ length w
   unfolding kept_from
-  stored-length =
+  stored_length =
       let kept = part (kept_from s w) s.places.next w in
       let old = unanswered s w in
       let new = text s.walk.settings (take n piece) in
       let tail = drop (s.places.end - kept_from s w + n) w in
-      ap length window-parts
+      ap length window_parts
       ∙ omega (
         arith,
         length-append kept (old ++ (new ++ tail)),
         length-append old (new ++ tail),
         length-append new tail,
-        kept-length,
+        kept_length,
         unanswered_length s w a size,
-        new-length,
+        new_length,
         length-drop (s.places.end - kept_from s w + n) w,
         r,
         a,
@@ -157,41 +157,41 @@ module _ (s : Session) (w piece : List ℕ) (n : ℕ) (a : Agree s) (r : Room s 
       )
 
   -- what lies beyond the new held end stays
-  pub stored-beyond : drop (s.places.end - kept_from s w + n) (stored_window s w piece n) ≡ drop (s.places.end - kept_from s w + n) w
+  pub stored_beyond : drop (s.places.end - kept_from s w + n) (stored_window s w piece n) ≡ drop (s.places.end - kept_from s w + n) w
   unfolding stored_window
-  stored-beyond =
+  stored_beyond =
       let held = part (kept_from s w) s.places.end w in
       let new = text s.walk.settings (take n piece) in
       let tail = drop (s.places.end - kept_from s w + n) w in
       let long : length (held ++ new) ≡ s.places.end - kept_from s w + n =
-      omega (arith, length-append held new, new-length, part_length (kept_from s w) s.places.end w (omega (arith, from_le, a)) (omega (arith, a, size)))
+      omega (arith, length-append held new, new_length, part_length (kept_from s w) s.places.end w (omega (arith, from_le, a)) (omega (arith, a, size)))
       in
       ap (drop (s.places.end - kept_from s w + n)) (sym (append_assoc held new tail)) ∙ drop_at (held ++ new) tail (s.places.end - kept_from s w + n) long
 
   -- the lines since the last row are the kept ones
-  stored-since : (quit : Bool) → since_lines (stored s w piece n quit) (stored_window s w piece n) ≡ last_of (kept_lines s.walk.settings) (since_lines s w)
+  stored_since : (quit : Bool) → since_lines (stored s w piece n quit) (stored_window s w piece n) ≡ last_of (kept_lines s.walk.settings) (since_lines s w)
   unfolding since_lines stored last_of
-  stored-since quit =
-      rw (stored-kept, kept_part_lem s w a.places.floor_next (omega (arith, a, size)))
+  stored_since quit =
+      rw (stored_kept, kept_part_lem s w a.places.floor_next (omega (arith, a, size)))
       (lines_drop (length (since_lines s w) - kept_lines s.walk.settings) s.walk.settings.terminator (part s.places.floor s.places.next w))
 
-  pub stored-shown : (quit : Bool) → trim s.walk.settings (shown (stored s w piece n quit) (stored_window s w piece n)) ≡ trim s.walk.settings (shown s w)
+  pub stored_shown : (quit : Bool) → trim s.walk.settings (shown (stored s w piece n quit) (stored_window s w piece n)) ≡ trim s.walk.settings (shown s w)
   unfolding shown state_since since_lines trim stored
-  stored-shown quit =
+  stored_shown quit =
       let k = kept_lines s.walk.settings in
       let ls = since_lines s w in
       let since : last_of k (back_from s.walk.bytes (s.walk.lines + 1) (last_of k ls)) ≡ last_of k (back_from s.walk.bytes (s.walk.lines + 1) ls) =
       back_from_last k s.walk.bytes (s.walk.lines + 1) (last_of k ls)
-      ∙ ap (λ xs. back_from s.walk.bytes (s.walk.lines + 1) xs) (lastOf-lastOf k k ls (omega arith))
+      ∙ ap (λ xs. back_from s.walk.bytes (s.walk.lines + 1) xs) (last_of_last_of k k ls (omega arith))
       ∙ sym (back_from_last k s.walk.bytes (s.walk.lines + 1) ls)
       in
-      rw (stored-since quit, since)
+      rw (stored_since quit, since)
 
-  pub stored-whole : Whole s.walk.settings.terminator (part s.places.floor s.places.next w)
+  pub stored_whole : Whole s.walk.settings.terminator (part s.places.floor s.places.next w)
       → Whole s.walk.settings.terminator (part 0 (s.places.next - kept_from s w) (stored_window s w piece n))
   unfolding last_of since_lines
-  stored-whole h =
-      rw (stored-kept, kept_part_lem s w a.places.floor_next (omega (arith, a, size)))
+  stored_whole h =
+      rw (stored_kept, kept_part_lem s w a.places.floor_next (omega (arith, a, size)))
       (whole_drop (length (since_lines s w) - kept_lines s.walk.settings) s.walk.settings.terminator (part s.places.floor s.places.next w) h)
 
 -- # The invariant
@@ -226,7 +226,7 @@ inv_taken input answers s w rest count given k n quit i r e =
     let new = text c (take n piece) in
     let old = unanswered s w in
     let cut = rest_text s n k rest r.quit in
-    let now = stored-unanswered s w piece n i.agree r i.window_is quit in
+    let now = stored_unanswered s w piece n i.agree r i.window_is quit in
     let joined : unanswered (stored s w piece n quit) (stored_window s w piece n) ++ text c (drop n rest) ≡ old ++ text c rest =
     ap (λ xs. xs ++ text c (drop n rest)) now ∙ append_assoc old new (text c (drop n rest)) ∙ ap (λ xs. old ++ xs) cut.1
     in
@@ -235,17 +235,17 @@ inv_taken input answers s w rest count given k n quit i r e =
       past = i.past ++ take n piece;
       gone = i.gone;
       agree = agree_stored s w piece n quit i.agree r;
-      window_is = stored-length s w piece n i.agree r i.window_is ∙ i.window_is;
+      window_is = stored_length s w piece n i.agree r i.window_is ∙ i.window_is;
       input_is = i.input_is ∙ ap (λ xs. i.past ++ xs) (sym cut.0) ∙ sym (append_assoc i.past (take n piece) (drop n rest));
       uncut = uncut_append c i.past (take n piece) i.uncut (take_uncut s n piece r.quit);
       text_is = text_append c i.past (take n piece) i.uncut ∙ ap (λ xs. xs ++ new) i.text_is ∙ append_assoc (flatten i.gone) old new ∙ ap (λ xs. flatten i.gone ++ xs) (sym now);
       bytes_is = i.bytes_is;
       lines_is = i.lines_is;
       count_is = i.count_is;
-      state_is = stored-shown s w piece n i.agree r i.window_is quit ∙ i.state_is;
+      state_is = stored_shown s w piece n i.agree r i.window_is quit ∙ i.state_is;
       rows_are = i.rows_are;
       lines_are = i.lines_are ∙ ap (λ xs. i.gone ++ lines c.terminator xs) (sym joined);
-      whole = λ h. stored-whole s w piece n i.agree r i.window_is (i.whole (rw joined at h));
+      whole = λ h. stored_whole s w piece n i.agree r i.window_is (i.whole (rw joined at h));
       fitted = i.fitted;
       replaced_is =
           ap₂ (λ p m. first_of p (replaced_in c.binary c.terminator m (take n piece))) i.replaced_is taken

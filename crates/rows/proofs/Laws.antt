@@ -45,12 +45,12 @@ module _ (t at offset number : ℕ) (part old table : List ℕ) (i k : ℕ) (l :
   some : 0 < length rest
   some = omega (arith, length-drop i part)
 
-  more-next : k + 1 + length (lines t (drop (i + len) part)) ≡ length (lines t part)
-  more-next = omega (arith, l.more, count_step t i part h)
+  more_next : k + 1 + length (lines t (drop (i + len) part)) ≡ length (lines t part)
+  more_next = omega (arith, l.more, count_step t i part h)
 
   -- a row more has room
   pub row_fits : at + row_size * length (lines t part) ≤ length old → (at + row_size * k + 4 ≤ length table) × (k + 1 ≤ length (lines t part))
-  row_fits room = (omega (arith, more-next, l.same), omega (arith, more-next))
+  row_fits room = (omega (arith, more_next, l.same), omega (arith, more_next))
 
   pub turn : at + row_size * length (lines t part) ≤ length old
       → Left t at offset number part old (put_at (at + row_size * k) (flat first) table) (i + len) (k + 1)
@@ -67,7 +67,7 @@ module _ (t at offset number : ℕ) (part old table : List ℕ) (i k : ℕ) (l :
         inside = omega (arith, length-drop i part);
         counted = omega (arith, l.counted, some);
         same = length_put_at (at + row_size * k) (flat first) table put ∙ l.same;
-        more = more-next;
+        more = more_next;
         to_come =
             rw (place, byte, line, sym (drop-drop len i part))
             (sym joined ∙ ap (λ xs. put_at (at + row_size * k) xs table) (sym numbers) ∙ l.to_come);

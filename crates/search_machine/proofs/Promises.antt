@@ -10,7 +10,7 @@ use Rattle.machine.specs.Machine.{Read, Turn, ended, ends, failed, goes, run, so
 use Rattle.machine.specs.Program.{Standing, begins, driver, hears, turns}
 use Rattle.machine.specs.Promises.{Ending, Prints, bytes_of, ending_of}
 use Rattle.machine.proofs.Promises.{one_text, printed}
-use Rattle.machine.proofs.Runs.{run_ends, run-goes, run-hears, run-waits}
+use Rattle.machine.proofs.Runs.{run_ends, run_goes, run_hears, run_waits}
 use Rattle.session.specs.Calls.{opened}
 use Rattle.session.specs.Sound.{closed}
 use Rattle.streams.specs.Moves.{failed_read}
@@ -66,41 +66,41 @@ module _ (at : List ℕ → State) (next : List ℕ → ℕ → Turn State) (P :
       → LinePrints P (looked_at (rest ++ bytes_of reads)) (rest ++ bytes_of reads) (ending_of reads) (run search n (turn_of (at rest)) reads)
 
   -- the line is not whole yet, and a read is wanted
-  line-waits : (n : ℕ) → Reads n → (rest : List ℕ) (reads : List Read) → looked_at rest ≡ Unfinished
+  line_waits : (n : ℕ) → Reads n → (rest : List ℕ) (reads : List Read) → looked_at rest ≡ Unfinished
       → 2 * length (rest ++ bytes_of reads) + 2 * length reads + (extra + 2) ≤ suc (suc n)
       → LinePrints P (looked_at (rest ++ bytes_of reads)) (rest ++ bytes_of reads) (ending_of reads) (run search (suc (suc n)) (wants (at rest)) reads)
   unfolding bytes_of ending_of
-  line-waits n on rest [] e l =
-      rw (append-nil rest, e) (run-waits search (suc n) (wants (at rest)) [] (at rest) refl refl)
-  line-waits n on rest (some bytes ∷ reads) e l =
+  line_waits n on rest [] e l =
+      rw (append-nil rest, e) (run_waits search (suc n) (wants (at rest)) [] (at rest) refl refl)
+  line_waits n on rest (some bytes ∷ reads) e l =
       let whole_is = append_assoc rest bytes (bytes_of reads) in
-      let heard = run-hears search (suc n) (wants (at rest)) (some bytes ∷ reads) (at rest) (some bytes) reads refl refl
-      ∙ run-goes search n (hears_of (some bytes) (at rest)) reads [] (at (rest ++ bytes)) (some_is rest bytes) in
+      let heard = run_hears search (suc n) (wants (at rest)) (some bytes ∷ reads) (at rest) (some bytes) reads refl refl
+      ∙ run_goes search n (hears_of (some bytes) (at rest)) reads [] (at (rest ++ bytes)) (some_is rest bytes) in
       subst (LinePrints P (looked_at (rest ++ (bytes ++ bytes_of reads))) (rest ++ (bytes ++ bytes_of reads)) (ending_of reads)) (sym heard)
       (subst (λ x. LinePrints P (looked_at x) x (ending_of reads) (run search n (turn_of (at (rest ++ bytes))) reads)) whole_is
       (on (rest ++ bytes) reads (omega (arith, l, ap length whole_is))))
-  line-waits n on rest (ended ∷ reads) e l =
+  line_waits n on rest (ended ∷ reads) e l =
       rw (append-nil rest, e)
-      (run-hears search (suc n) (wants (at rest)) (ended ∷ reads) (at rest) ended reads refl refl
+      (run_hears search (suc n) (wants (at rest)) (ended ∷ reads) (at rest) ended reads refl refl
       ∙ run_ends search n (hears_of ended (at rest)) reads (refused_text 1) (ended_is rest))
-  line-waits n on rest (failed ∷ reads) e l =
+  line_waits n on rest (failed ∷ reads) e l =
       rw (append-nil rest, e)
-      (run-hears search (suc n) (wants (at rest)) (failed ∷ reads) (at rest) failed reads refl refl
+      (run_hears search (suc n) (wants (at rest)) (failed ∷ reads) (at rest) failed reads refl refl
       ∙ run_ends search n (hears_of failed (at rest)) reads failed_read (failed-is rest))
 
-  line-by : (n : ℕ) → Reads n → (rest : List ℕ) (reads : List Read) (seen : Seen) → Looks rest seen → looked_at rest ≡ seen
+  line_by : (n : ℕ) → Reads n → (rest : List ℕ) (reads : List Read) (seen : Seen) → Looks rest seen → looked_at rest ≡ seen
       → 2 * length (rest ++ bytes_of reads) + 2 * length reads + (extra + 2) ≤ suc (suc n)
       → LinePrints P (looked_at (rest ++ bytes_of reads)) (rest ++ bytes_of reads) (ending_of reads) (run search (suc (suc n)) (turn_of (at rest)) reads)
-  line-by n on rest reads _ (whole-yet h k) e l =
+  line_by n on rest reads _ (whole-yet h k) e l =
       let turn : turn_of (at rest) ≡ next rest (first_place newline rest) = turn_is rest ∙ ap (λ s. line_turn s (at rest) (next rest)) e in
       let prints = goes_on rest reads (suc (suc n)) k (omega (arith, l)) in
       subst (λ s. LinePrints P s (rest ++ bytes_of reads) (ending_of reads) (run search (suc (suc n)) (turn_of (at rest)) reads)) (sym (whole_more rest (bytes_of reads) h k))
       (subst (λ t. P (first_place newline rest) (rest ++ bytes_of reads) (ending_of reads) (run search (suc (suc n)) t reads)) (sym turn) prints)
-  line-by n on rest reads _ (unfinished-yet h k) e l =
+  line_by n on rest reads _ (unfinished-yet h k) e l =
       let turn : turn_of (at rest) ≡ wants (at rest) = turn_is rest ∙ ap (λ s. line_turn s (at rest) (next rest)) e in
       subst (λ t. LinePrints P (looked_at (rest ++ bytes_of reads)) (rest ++ bytes_of reads) (ending_of reads) (run search (suc (suc n)) t reads)) (sym turn)
-      (line-waits n on rest reads e l)
-  line-by n on rest reads _ (passes h) e l =
+      (line_waits n on rest reads e l)
+  line_by n on rest reads _ (passes h) e l =
       let turn : turn_of (at rest) ≡ ends (refused_text 1) = turn_is rest ∙ ap (λ s. line_turn s (at rest) (next rest)) e in
       subst (λ s. LinePrints P s (rest ++ bytes_of reads) (ending_of reads) (run search (suc (suc n)) (turn_of (at rest)) reads)) (sym (long_more rest (bytes_of reads) h))
       (run_ends search (suc n) (turn_of (at rest)) reads (refused_text 1) turn)
@@ -108,21 +108,21 @@ module _ (at : List ℕ → State) (next : List ℕ → ℕ → Turn State) (P :
   line_reads : (n : ℕ) → Reads n
   line_reads zero rest reads l = absurd (omega (arith, l))
   line_reads (suc zero) rest reads l = absurd (omega (arith, l))
-  line_reads (suc (suc n)) rest reads l = line-by n (line_reads n) rest reads (looked_at rest) (looks rest) refl l
+  line_reads (suc (suc n)) rest reads l = line_by n (line_reads n) rest reads (looked_at rest) (looks rest) refl l
 
 -- what lies behind a line, and more after it
 module _ (rest more : List ℕ) (k : first_place newline rest < length rest) where
   abbrev n : ℕ
   n = first_place newline rest
 
-  line-more : take n (rest ++ more) ≡ take n rest
-  line-more = take-append-le n rest more (omega (arith, k))
+  line_more : take n (rest ++ more) ≡ take n rest
+  line_more = take-append-le n rest more (omega (arith, k))
 
   behind_more : drop (n + 1) (rest ++ more) ≡ drop (n + 1) rest ++ more
   behind_more = drop-append-le (n + 1) rest more (omega (arith, k))
 
-  behind-less : length (drop (n + 1) rest ++ more) + 1 ≤ length (rest ++ more)
-  behind-less = omega (arith, k, length-append (drop (n + 1) rest) more, length-append rest more, length-drop (n + 1) rest)
+  behind_less : length (drop (n + 1) rest ++ more) + 1 ≤ length (rest ++ more)
+  behind_less = omega (arith, k, length-append (drop (n + 1) rest) more, length-append rest more, length-drop (n + 1) rest)
 
 -- # The second line
 
@@ -136,9 +136,9 @@ module _ (c : Settings) (w : List ℕ) (size : length w ≡ window_size) (served
   abbrev SecondPrints : Then
   SecondPrints n bytes how x = Prints (search_for (take n bytes)) c window_size (drop (n + 1) bytes) how x
 
-  second-turn : (rest : List ℕ) → turn_of (secondAt rest) ≡ line_turn (looked_at rest) (secondAt rest) (secondNext rest)
+  second_turn_lem : (rest : List ℕ) → turn_of (secondAt rest) ≡ line_turn (looked_at rest) (secondAt rest) (secondNext rest)
   unfolding turn_of
-  second-turn rest = go (looked_at rest)
+  second_turn_lem rest = go (looked_at rest)
     where
       go : (s : Seen) → second_turn s (secondAt rest) ≡ line_turn s (secondAt rest) (secondNext rest)
       go (Whole n) = refl
@@ -146,22 +146,22 @@ module _ (c : Settings) (w : List ℕ) (size : length w ≡ window_size) (served
       go TooLong = refl
 
   -- the text begins
-  text-prints : (rest : List ℕ) (reads : List Read) (n : ℕ) → first_place newline rest < length rest
+  text_prints : (rest : List ℕ) (reads : List Read) (n : ℕ) → first_place newline rest < length rest
       → 2 * length (rest ++ bytes_of reads) + 2 * length reads + 2 ≤ n
       → SecondPrints (first_place newline rest) (rest ++ bytes_of reads) (ending_of reads) (run search n (secondNext rest (first_place newline rest)) reads)
   unfolding turn_of
-  text-prints rest reads zero k l = absurd (omega (arith, l))
-  text-prints rest reads (suc n) k l =
+  text_prints rest reads zero k l = absurd (omega (arith, l))
+  text_prints rest reads (suc n) k l =
       let m = first_place newline rest in
       let literal = take m rest in
       let behind = drop (m + 1) rest in
       let p = search_for literal in
       let st : State = record { stage = Text; literal = literal; standing = begins c w behind } in
       let same : run search (suc n) (secondNext rest m) reads ≡ run (driver p) n (turns p (begins c w behind)) reads =
-      run-goes search n (secondNext rest m) reads [] st refl ∙ text_run literal n (turns p (begins c w behind)) reads
+      run_goes search n (secondNext rest m) reads [] st refl ∙ text_run literal n (turns p (begins c w behind)) reads
       in
-      let prints = printed p c w behind reads n served (omega (arith, l, behind-less rest (bytes_of reads) k)) in
-      subst (λ x. Prints (search_for x) c window_size (drop (m + 1) (rest ++ bytes_of reads)) (ending_of reads) (run search (suc n) (secondNext rest m) reads)) (sym (line-more rest (bytes_of reads) k))
+      let prints = printed p c w behind reads n served (omega (arith, l, behind_less rest (bytes_of reads) k)) in
+      subst (λ x. Prints (search_for x) c window_size (drop (m + 1) (rest ++ bytes_of reads)) (ending_of reads) (run search (suc n) (secondNext rest m) reads)) (sym (line_more rest (bytes_of reads) k))
       (subst (λ x. Prints p c window_size x (ending_of reads) (run search (suc n) (secondNext rest m) reads)) (sym (behind_more rest (bytes_of reads) k))
       (subst (Prints p c window_size (behind ++ bytes_of reads) (ending_of reads)) (sym same)
       (subst (λ x. Prints p c x (behind ++ bytes_of reads) (ending_of reads) (run (driver p) n (turns p (begins c w behind)) reads)) size prints)))
@@ -176,7 +176,7 @@ module _ (c : Settings) (w : List ℕ) (size : length w ≡ window_size) (served
   unfolding hears_of
   second_reads n rest reads l =
       second_is (looked_at (rest ++ bytes_of reads)) (rest ++ bytes_of reads) (ending_of reads) (run search n (turn_of (secondAt rest)) reads)
-      (line_reads secondAt secondNext SecondPrints 2 second-turn (λ _ _. refl) (λ _. refl) (λ _. refl) text-prints n rest reads (omega (arith, l)))
+      (line_reads secondAt secondNext SecondPrints 2 second_turn_lem (λ _ _. refl) (λ _. refl) (λ _. refl) text_prints n rest reads (omega (arith, l)))
 
 -- # The first
 
@@ -190,9 +190,9 @@ module _ (w : List ℕ) (size : length w ≡ window_size) where
   abbrev FirstPrints : Then
   FirstPrints n bytes how x = SearchPrints (asked_line (asked_of (take n bytes)) (drop (n + 1) bytes)) how x
 
-  first-turn : (rest : List ℕ) → turn_of (first_at rest) ≡ line_turn (looked_at rest) (first_at rest) (firstNext rest)
+  first_turn_lem : (rest : List ℕ) → turn_of (first_at rest) ≡ line_turn (looked_at rest) (first_at rest) (firstNext rest)
   unfolding turn_of
-  first-turn rest = go (looked_at rest)
+  first_turn_lem rest = go (looked_at rest)
     where
       go : (s : Seen) → first_turn s (first_at rest) ≡ line_turn s (first_at rest) (firstNext rest)
       go (Whole n) = refl
@@ -200,10 +200,10 @@ module _ (w : List ℕ) (size : length w ≡ window_size) where
       go TooLong = refl
 
   -- the search is opened, or refused
-  open-prints : (c : Settings) (b : Bool) → eqb (opened c (length w)).refusal 0 ≡ b → (behind : List ℕ) (reads : List Read) (n : ℕ)
+  open_prints : (c : Settings) (b : Bool) → eqb (opened c (length w)).refusal 0 ≡ b → (behind : List ℕ) (reads : List Read) (n : ℕ)
       → 2 * length (behind ++ bytes_of reads) + 2 * length reads + 4 ≤ n
       → SearchPrints (asked_line (For c) (behind ++ bytes_of reads)) (ending_of reads) (run search (suc n) (asks (For c) [] w behind) reads)
-  open-prints c true e behind reads n l =
+  open_prints c true e behind reads n l =
       let served = eqb-true (opened c (length w)).refusal 0 e in
       let turn : asks (For c) [] w behind ≡ goes [] (record { stage = Second; literal = []; standing = begins c w behind }) = rw e in
       let heading : asked_line (For c) (behind ++ bytes_of reads) ≡ second_line (looked_at (behind ++ bytes_of reads)) c (behind ++ bytes_of reads) =
@@ -211,9 +211,9 @@ module _ (w : List ℕ) (size : length w ≡ window_size) where
       in
       subst (λ h. SearchPrints h (ending_of reads) (run search (suc n) (asks (For c) [] w behind) reads)) (sym heading)
       (subst (SearchPrints (second_line (looked_at (behind ++ bytes_of reads)) c (behind ++ bytes_of reads)) (ending_of reads))
-      (sym (run-goes search n (asks (For c) [] w behind) reads [] (record { stage = Second; literal = []; standing = begins c w behind }) turn))
+      (sym (run_goes search n (asks (For c) [] w behind) reads [] (record { stage = Second; literal = []; standing = begins c w behind }) turn))
       (second_reads c w size served n behind reads l))
-  open-prints c false e behind reads n l =
+  open_prints c false e behind reads n l =
       let k = (opened c (length w)).refusal in
       let turn : asks (For c) [] w behind ≡ ends (refused_text k) = rw e in
       let heading : asked_line (For c) (behind ++ bytes_of reads) ≡ bad k =
@@ -222,32 +222,32 @@ module _ (w : List ℕ) (size : length w ≡ window_size) where
       subst (λ h. SearchPrints h (ending_of reads) (run search (suc n) (asks (For c) [] w behind) reads)) (sym heading)
       (run_ends search n (asks (For c) [] w behind) reads (refused_text k) turn)
 
-  ask-prints : (a : Asked) (behind : List ℕ) (reads : List Read) (n : ℕ) → 2 * length (behind ++ bytes_of reads) + 2 * length reads + 4 ≤ n
+  ask_prints : (a : Asked) (behind : List ℕ) (reads : List Read) (n : ℕ) → 2 * length (behind ++ bytes_of reads) + 2 * length reads + 4 ≤ n
       → SearchPrints (asked_line a (behind ++ bytes_of reads)) (ending_of reads) (run search (suc n) (asks a [] w behind) reads)
-  ask-prints (For c) behind reads n l = open-prints c (eqb (opened c (length w)).refusal 0) refl behind reads n l
-  ask-prints OtherForm behind reads n l = run_ends search n (ends (refused_text 1)) reads (refused_text 1) refl
+  ask_prints (For c) behind reads n l = open_prints c (eqb (opened c (length w)).refusal 0) refl behind reads n l
+  ask_prints OtherForm behind reads n l = run_ends search n (ends (refused_text 1)) reads (refused_text 1) refl
 
-  asked-prints : (rest : List ℕ) (reads : List Read) (n : ℕ) → first_place newline rest < length rest
+  asked_prints : (rest : List ℕ) (reads : List Read) (n : ℕ) → first_place newline rest < length rest
       → 2 * length (rest ++ bytes_of reads) + 2 * length reads + 3 ≤ n
       → FirstPrints (first_place newline rest) (rest ++ bytes_of reads) (ending_of reads) (run search n (firstNext rest (first_place newline rest)) reads)
-  asked-prints rest reads zero k l = absurd (omega (arith, l))
-  asked-prints rest reads (suc n) k l =
+  asked_prints rest reads zero k l = absurd (omega (arith, l))
+  asked_prints rest reads (suc n) k l =
       let m = first_place newline rest in
       let behind = drop (m + 1) rest in
-      subst (λ x. SearchPrints (asked_line (asked_of x) (drop (m + 1) (rest ++ bytes_of reads))) (ending_of reads) (run search (suc n) (firstNext rest m) reads)) (sym (line-more rest (bytes_of reads) k))
+      subst (λ x. SearchPrints (asked_line (asked_of x) (drop (m + 1) (rest ++ bytes_of reads))) (ending_of reads) (run search (suc n) (firstNext rest m) reads)) (sym (line_more rest (bytes_of reads) k))
       (subst (λ x. SearchPrints (asked_line (asked_of (take m rest)) x) (ending_of reads) (run search (suc n) (firstNext rest m) reads)) (sym (behind_more rest (bytes_of reads) k))
-      (ask-prints (asked_of (take m rest)) behind reads n (omega (arith, l, behind-less rest (bytes_of reads) k))))
+      (ask_prints (asked_of (take m rest)) behind reads n (omega (arith, l, behind_less rest (bytes_of reads) k))))
 
-  first-is : (s : Seen) (bytes : List ℕ) (how : Ending) (x : List ℕ) → LinePrints FirstPrints s bytes how x → SearchPrints (first_line s bytes) how x
-  first-is (Whole n) bytes how x h = h
-  first-is Unfinished bytes how x h = h
-  first-is TooLong bytes how x h = h
+  first_is : (s : Seen) (bytes : List ℕ) (how : Ending) (x : List ℕ) → LinePrints FirstPrints s bytes how x → SearchPrints (first_line s bytes) how x
+  first_is (Whole n) bytes how x h = h
+  first_is Unfinished bytes how x h = h
+  first_is TooLong bytes how x h = h
 
 pub searched : Searched
 unfolding heading_of hears_of
 searched w reads n size l =
-    first-is w size (looked_at (bytes_of reads)) (bytes_of reads) (ending_of reads) (run search n (turn_of (starts w)) reads)
-    (line_reads (first_at w size) (firstNext w size) (FirstPrints w size) 3 (first-turn w size) (λ _ _. refl) (λ _. refl) (λ _. refl) (asked-prints w size) n [] reads (omega (arith, l)))
+    first_is w size (looked_at (bytes_of reads)) (bytes_of reads) (ending_of reads) (run search n (turn_of (starts w)) reads)
+    (line_reads (first_at w size) (firstNext w size) (FirstPrints w size) 3 (first_turn_lem w size) (λ _ _. refl) (λ _. refl) (λ _. refl) (asked_prints w size) n [] reads (omega (arith, l)))
 
 pub searched_alike : SearchedAlike
 searched_alike w v reads others n m size same bytes ending k l =

@@ -15,5 +15,5 @@ one_outcome =
       line = λ self w at r q n m h k. (same r q _ h.0 k.0, same n m _ h.1 k.1);
       answer = λ self w table hit r q v u h k. (same r q _ h.0 k.0, same v u _ h.1 k.1);
       tell_end = λ self r q h k. same r q _ h k;
-      end_record_lem = λ self r q h k. same r q _ h k;
+      end_record = λ self r q h k. same r q _ h k;
     }

@@ -59,4 +59,4 @@ pub record OneOutcome : Type 0 where
       → Answers self w table hit q u
       → (r ≡ q) × (v ≡ u)
   pub tell_end : (self : Searcher) (r q : Told) → TellsEnd self r → TellsEnd self q → r ≡ q
-  pub end_record_lem : (self : Searcher) (r q : Recorded) → Records self r → Records self q → r ≡ q
+  pub end_record : (self : Searcher) (r q : Recorded) → Records self r → Records self q → r ≡ q

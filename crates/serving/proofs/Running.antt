@@ -72,15 +72,15 @@ rests_hearing {s} {got} {input} {after} lent r e i h w o =
 
 -- the lent buffers keep their lengths
 pub record Sizes (window₀ table₀ literal₀ input₀ out₀ window table literal input out : List ℕ) : Type 0 where
-  pub window_size_lem : length window ≡ length window₀
-  pub table_size_lem : length table ≡ length table₀
+  pub window_size : length window ≡ length window₀
+  pub table_size : length table ≡ length table₀
   pub literal_size : length literal ≡ length literal₀
   pub input_size : length input ≡ length input₀
   pub out_size : length out ≡ length out₀
 
 pub same_sizes : (window table literal input out : List ℕ) → Sizes window table literal input out window table literal input out
 same_sizes window table literal input out =
-    record { window_size_lem = refl; table_size_lem = refl; literal_size = refl; input_size = refl; out_size = refl }
+    record { window_size = refl; table_size = refl; literal_size = refl; input_size = refl; out_size = refl }
 
 pub lent_still : {window₀ table₀ literal₀ input₀ out₀ window table literal input out : List ℕ}
     → Sizes window₀ table₀ literal₀ input₀ out₀ window table literal input out
@@ -88,8 +88,8 @@ pub lent_still : {window₀ table₀ literal₀ input₀ out₀ window table lit
     → Lent window table literal input out
 lent_still z l =
     record {
-      window_is = z.window_size_lem ∙ l.window_is;
-      table_is = z.table_size_lem ∙ l.table_is;
+      window_is = z.window_size ∙ l.window_is;
+      table_is = z.table_size ∙ l.table_is;
       literal_room = omega (arith, z.literal_size, l.literal_room);
       input_room = omega (arith, z.input_size, l.input_room);
       out_room = omega (arith, z.out_size, l.out_room);

@@ -22,43 +22,43 @@ module _ (s : Session) (w piece : List ℕ) where
     full : Plain s w piece → taken_bytes s < max_input → waits s w ≡ false → s.places.window ≤ held_bytes s w → OfferCase (OfferRefused 3)
     takes : Plain s w piece → taken_bytes s < max_input → (waits s w ≡ true) ⊎ (held_bytes s w < s.places.window) → OfferCase (taking s w piece)
 
-  offer-room : (b v : Bool) → waits s w ≡ b → leb s.places.window (held_bytes s w) ≡ v → Plain s w piece → taken_bytes s < max_input
+  offer_room : (b v : Bool) → waits s w ≡ b → leb s.places.window (held_bytes s w) ≡ v → Plain s w piece → taken_bytes s < max_input
       → OfferCase (cond (not b && v) (OfferRefused 3) (taking s w piece))
-  offer-room true v e k p m = takes p m (inl e)
-  offer-room false true e k p m = full p m e (leb-true s.places.window (held_bytes s w) k)
-  offer-room false false e k p m = takes p m (inr (leb-false s.places.window (held_bytes s w) k))
+  offer_room true v e k p m = takes p m (inl e)
+  offer_room false true e k p m = full p m e (leb-true s.places.window (held_bytes s w) k)
+  offer_room false false e k p m = takes p m (inr (leb-false s.places.window (held_bytes s w) k))
 
-  offer-size : (b : Bool) → leb max_input (taken_bytes s) ≡ b → Plain s w piece
+  offer_size : (b : Bool) → leb max_input (taken_bytes s) ≡ b → Plain s w piece
       → OfferCase (cond b (OfferRefused 5) (cond (not (waits s w) && leb s.places.window (held_bytes s w)) (OfferRefused 3) (taking s w piece)))
-  offer-size true e p = sized p (leb-true max_input (taken_bytes s) e)
-  offer-size false e p = offer-room (waits s w) (leb s.places.window (held_bytes s w)) refl refl p (leb-false max_input (taken_bytes s) e)
+  offer_size true e p = sized p (leb-true max_input (taken_bytes s) e)
+  offer_size false e p = offer_room (waits s w) (leb s.places.window (held_bytes s w)) refl refl p (leb-false max_input (taken_bytes s) e)
 
-  offer-first : (b i q : Bool) → sound s (length w) ≡ b → idle s piece ≡ i → quit_front s piece ≡ q
+  offer_first : (b i q : Bool) → sound s (length w) ≡ b → idle s piece ≡ i → quit_front s piece ≡ q
       → OfferCase
       (cond (not b) (OfferRefused 6)
       (cond i Idle
       (cond q (taking s w piece)
       (cond (leb max_input (taken_bytes s)) (OfferRefused 5)
       (cond (not (waits s w) && leb s.places.window (held_bytes s w)) (OfferRefused 3) (taking s w piece))))))
-  offer-first false i q e j k = unsound e
-  offer-first true true q e j k = idling e j
-  offer-first true false true e j k = quits e j k
-  offer-first true false false e j k = offer-size (leb max_input (taken_bytes s)) refl (e, j, k)
+  offer_first false i q e j k = unsound e
+  offer_first true true q e j k = idling e j
+  offer_first true false true e j k = quits e j k
+  offer_first true false false e j k = offer_size (leb max_input (taken_bytes s)) refl (e, j, k)
 
-  pub offer-case : OfferCase (offering s w piece)
+  pub offer_case : OfferCase (offering s w piece)
   unfolding offering
-  offer-case = offer-first (sound s (length w)) (idle s piece) (quit_front s piece) refl refl refl
+  offer_case = offer_first (sound s (length w)) (idle s piece) (quit_front s piece) refl refl refl
 
   -- and each case decides
-  pub offer-is : (o : OfferDecision) → OfferCase o → offering s w piece ≡ o
+  pub offer_is : (o : OfferDecision) → OfferCase o → offering s w piece ≡ o
   unfolding offering
-  offer-is _ (unsound e) = rw e
-  offer-is _ (idling e j) = rw (e, j)
-  offer-is _ (quits e j k) = rw (e, j, k)
-  offer-is _ (sized p m) = rw (p.0, p.1, p.2, le-leb max_input (taken_bytes s) m)
-  offer-is _ (full p m v f) = rw (p.0, p.1, p.2, lt-leb max_input (taken_bytes s) m, v, le-leb s.places.window (held_bytes s w) f)
-  offer-is _ (takes p m (inl v)) = rw (p.0, p.1, p.2, lt-leb max_input (taken_bytes s) m, v)
-  offer-is _ (takes p m (inr f)) =
+  offer_is _ (unsound e) = rw e
+  offer_is _ (idling e j) = rw (e, j)
+  offer_is _ (quits e j k) = rw (e, j, k)
+  offer_is _ (sized p m) = rw (p.0, p.1, p.2, le-leb max_input (taken_bytes s) m)
+  offer_is _ (full p m v f) = rw (p.0, p.1, p.2, lt-leb max_input (taken_bytes s) m, v, le-leb s.places.window (held_bytes s w) f)
+  offer_is _ (takes p m (inl v)) = rw (p.0, p.1, p.2, lt-leb max_input (taken_bytes s) m, v)
+  offer_is _ (takes p m (inr f)) =
       rw (p.0, p.1, p.2, lt-leb max_input (taken_bytes s) m, lt-leb s.places.window (held_bytes s w) f, and-false (not (waits s w)))
 
 module _ (s : Session) (w : List ℕ) (table : ℕ) (hit : Bool) where
@@ -71,26 +71,26 @@ module _ (s : Session) (w : List ℕ) (table : ℕ) (hit : Bool) where
     gives : sound s (length w) ≡ true → waits s w ≡ true → below_one s w hit ≡ false → row_size * length (answer_rows s w hit) ≤ table
         → AnswerCase Give
 
-  answer-first : (b v l f : Bool) → sound s (length w) ≡ b → waits s w ≡ v → below_one s w hit ≡ l
+  answer_first : (b v l f : Bool) → sound s (length w) ≡ b → waits s w ≡ v → below_one s w hit ≡ l
       → ltb table (row_size * length (answer_rows s w hit)) ≡ f
       → AnswerCase
       (cond (not b) (AnswerRefused 6) (cond (not v) (AnswerRefused 6) (cond l (AnswerRefused 6) (cond f (AnswerRefused 4) Give))))
-  answer-first false v l f e i j k = unsound e
-  answer-first true false l f e i j k = none e i
-  answer-first true true true f e i j k = below e i j
-  answer-first true true false true e i j k = few e i j (ltb-true table (row_size * length (answer_rows s w hit)) k)
-  answer-first true true false false e i j k = gives e i j (ltb-false table (row_size * length (answer_rows s w hit)) k)
+  answer_first false v l f e i j k = unsound e
+  answer_first true false l f e i j k = none e i
+  answer_first true true true f e i j k = below e i j
+  answer_first true true false true e i j k = few e i j (ltb-true table (row_size * length (answer_rows s w hit)) k)
+  answer_first true true false false e i j k = gives e i j (ltb-false table (row_size * length (answer_rows s w hit)) k)
 
-  pub answer-case : AnswerCase (answering s w table hit)
+  pub answer_case : AnswerCase (answering s w table hit)
   unfolding answering answering_since below_one answer_rows
-  answer-case =
-      answer-first (sound s (length w)) (waits s w) (below_one s w hit) (ltb table (row_size * length (answer_rows s w hit))) refl refl refl refl
+  answer_case =
+      answer_first (sound s (length w)) (waits s w) (below_one s w hit) (ltb table (row_size * length (answer_rows s w hit))) refl refl refl refl
 
   -- and each case decides
-  pub answer-is : (o : AnswerDecision) → AnswerCase o → answering s w table hit ≡ o
+  pub answer_is : (o : AnswerDecision) → AnswerCase o → answering s w table hit ≡ o
   unfolding answering answering_since below_one answer_rows
-  answer-is _ (unsound e) = rw e
-  answer-is _ (none e v) = rw (e, v)
-  answer-is _ (below e v b) = rw (e, v, b)
-  answer-is _ (few e v b m) = rw (e, v, b, lt-ltb table (row_size * length (answer_rows s w hit)) m)
-  answer-is _ (gives e v b m) = rw (e, v, b, le-ltb table (row_size * length (answer_rows s w hit)) m)
+  answer_is _ (unsound e) = rw e
+  answer_is _ (none e v) = rw (e, v)
+  answer_is _ (below e v b) = rw (e, v, b)
+  answer_is _ (few e v b m) = rw (e, v, b, lt-ltb table (row_size * length (answer_rows s w hit)) m)
+  answer_is _ (gives e v b m) = rw (e, v, b, le-ltb table (row_size * length (answer_rows s w hit)) m)

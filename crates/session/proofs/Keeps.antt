@@ -6,13 +6,13 @@ use Rattle.definition.specs.Bounds.{allowed, max_input, max_window}
 use Rattle.definition.specs.Rows.{row_size}
 use Rattle.definition.specs.State.{fate_of}
 use Rattle.driver_core.specs.Answer.{AnswerDecision, AnswerRefused, Give, gets_row, state_since}
-use Rattle.driver_core.proofs.Keeps.{agree_fewer, agree-next, agree_start, since_now, waiting_some, waits_why, Waits}
+use Rattle.driver_core.proofs.Keeps.{agree_fewer, agree_next, agree_start, since_now, waiting_some, waits_why, Waits}
 use Rattle.session.specs.declared.Session.{Session}
 use Rattle.session.specs.Calls.{Idle, OfferDecision, OfferRefused, Take, answer_answer, answer_rows, answer_session, answered, answering, before_quit, fitting, fresh, offer_answer, offered, offering, opened, opening, places_next, stored, taking, told, told_session}
 use Rattle.session.specs.Held.{held_bytes, is_open, kept_bytes, kept_from, line_length, shown, since, unanswered, waits}
 use Rattle.session.specs.Sound.{Agree, agrees, ahead_bytes, since_bytes, sound, taken_bytes}
 use Rattle.session.proofs.Agree.{agree_of, agrees_of}
-use Rattle.session.proofs.Cases.{OfferCase, unsound, idling, quits, sized, full, takes, offer-case, AnswerCase, few, gives, none, below, answer-case}
+use Rattle.session.proofs.Cases.{OfferCase, unsound, idling, quits, sized, full, takes, offer_case, AnswerCase, few, gives, none, below, answer_case}
 use Rattle.session.proofs.Cases as Cases
 use Rattle.session.proofs.Parts.{kept_le}
 
@@ -79,7 +79,7 @@ taken_case s w piece _ (full p h v k) = tt
 taken_case s w piece _ (takes p h v) = taking_taken s w piece p.0
 
 pub offer_taken : (s : Session) (w piece : List ℕ) → TakenIf s w piece (offering s w piece)
-offer_taken s w piece = taken_case s w piece _ (offer-case s w piece)
+offer_taken s w piece = taken_case s w piece _ (offer_case s w piece)
 
 agree_offer_of : (s : Session) (w piece : List ℕ) (o : OfferDecision) → TakenIf s w piece o → Agree s → Agree (offer_answer o s w piece).session
 agree_offer_of s w piece (OfferRefused k) t a = a
@@ -125,7 +125,7 @@ agree_given s w hit a v =
           record { some = a.places.some; most = a.places.most; floor_next = floor.0; next_end = omega arith; end_window = a.places.end_window };
       walk =
           rw (floor.1, ahead)
-          (agree-next s.walk (since_bytes s) (ahead_bytes s) len a.walk (waiting_length s w v) fits (since s w) hit);
+          (agree_next s.walk (since_bytes s) (ahead_bytes s) len a.walk (waiting_length s w v) fits (since s w) hit);
     }
 
 -- what a decision to give implies
@@ -141,7 +141,7 @@ given_case s w table hit _ (few e v b h) = tt
 given_case s w table hit _ (gives e v b h) = (v, h)
 
 pub answer_given : (s : Session) (w : List ℕ) (table : ℕ) (hit : Bool) → GivenIf s w table hit (answering s w table hit)
-answer_given s w table hit = given_case s w table hit _ (answer-case s w table hit)
+answer_given s w table hit = given_case s w table hit _ (answer_case s w table hit)
 
 agree_answer_of : (s : Session) (w : List ℕ) (table : ℕ) (hit : Bool) (o : AnswerDecision) → GivenIf s w table hit o → Agree s
     → Agree (answer_answer o s w hit).session

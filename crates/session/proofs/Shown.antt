@@ -22,12 +22,12 @@ front_there : (t l j : ℕ) (xs : List ℕ) → let shown = up_to t (take l (tak
 front_there t l j xs =
     let ys = take l (take j xs) in
     let k = length (up_to t ys) in
-    let inside : k ≤ length ys = first-length t ys in
+    let inside : k ≤ length ys = first_length_lem t ys in
     let size = length-take l (take j xs) in
     up_front t ys ∙ take-take k l (take j xs) (omega (arith, inside, size)) ∙ take-take k j xs (omega (arith, inside, size, length-take j xs))
   where
-    first-length : (t : ℕ) (xs : List ℕ) → length (up_to t xs) ≤ length xs
-    first-length t xs = omega (arith, ap length (up_front t xs), length-take (length (up_to t xs)) xs)
+    first_length_lem : (t : ℕ) (xs : List ℕ) → length (up_to t xs) ≤ length xs
+    first_length_lem t xs = omega (arith, ap length (up_front t xs), length-take (length (up_to t xs)) xs)
 
 part_there : (from n : ℕ) (w : List ℕ) → take n (drop from w) ≡ part from (from + n) w
 part_there from n w =
@@ -38,15 +38,15 @@ pub shown_there : ShownThere
 unfolding shown_line shown_from shown_ahead unanswered handed
 shown_there s w = go (sound s (length w)) (waits_ahead s.walk (is_open s.places.input) (unanswered s w))
   where
-    line-here : List ℕ
-    line-here = up_to s.walk.settings.terminator (take (first_length s.walk.settings.terminator (unanswered s w)) (unanswered s w))
+    line_here : List ℕ
+    line_here = up_to s.walk.settings.terminator (take (first_length s.walk.settings.terminator (unanswered s w)) (unanswered s w))
 
     go : (b v : Bool)
-        → let shown = cond b (cond v line-here []) [] in
+        → let shown = cond b (cond v line_here []) [] in
         shown ≡ part (cond b s.places.next 0) (cond b s.places.next 0 + length shown) w
     go true true =
         let next = s.places.next in
         front_there s.walk.settings.terminator (first_length s.walk.settings.terminator (unanswered s w)) (s.places.end - next) (drop next w)
-        ∙ part_there next (length line-here) w
+        ∙ part_there next (length line_here) w
     go true false = part_there s.places.next 0 w
     go false v = part_there 0 0 w

@@ -18,7 +18,7 @@ use Rattle.searcher.proofs.Laws.{rows_le}
 use Rattle.driver_core.specs.Answer.{AnswerDecision, AnswerRefused, Give, put_rows}
 use Rattle.session.specs.declared.Session.{Session}
 use Rattle.session.specs.Calls.{answer_answer, answer_rows, answer_session, answered, answered_table, answering, offered, offered_window, recorded, shown_line}
-use Rattle.session.proofs.Cases.{AnswerCase, answer-case, below, few, gives, none, unsound}
+use Rattle.session.proofs.Cases.{AnswerCase, answer_case, below, few, gives, none, unsound}
 use Rattle.search_machine.specs.declared.Stage.{Stage}
 use Rattle.search_machine.specs.declared.Stage.TheVariants.{Text}
 use Rattle.search_machine.specs.Search.{in_text, search_for, state_at, turn_of}
@@ -45,24 +45,24 @@ unfolding rows_text put_rows
 rows_put rs table = ap (λ xs. flatten (map row_text xs)) (rows_in_put rs (drop (row_size * length rs) table))
 
 module _ (s : Session) (w table : List ℕ) (hit : Bool) where
-  pub answered-gives : (answered s w table hit).refusal ≡ 0 → answering s w (length table) hit ≡ Give
+  pub answered_gives : (answered s w table hit).refusal ≡ 0 → answering s w (length table) hit ≡ Give
   unfolding answered
-  answered-gives h = given s w (length table) hit (answering s w (length table) hit) (answer-case s w (length table) hit) h
+  answered_gives h = given s w (length table) hit (answering s w (length table) hit) (answer_case s w (length table) hit) h
 
-  pub answered-refuses : ((answered s w table hit).refusal ≡ 0 → ⊥)
+  pub answered_refuses : ((answered s w table hit).refusal ≡ 0 → ⊥)
       → answering s w (length table) hit ≡ AnswerRefused (answered s w table hit).refusal
   unfolding answered
-  answered-refuses h = refused_by_lem (answering s w (length table) hit) s w hit h
+  answered_refuses h = refused_by_lem (answering s w (length table) hit) s w hit h
 
   -- the rows in the table are those of the answer
-  pub answered-rows : answering s w (length table) hit ≡ Give
+  pub answered_rows : answering s w (length table) hit ≡ Give
       → rows_text (answered s w table hit).rows (answered_table s w table hit) ≡ flatten (map row_text (answer_rows s w hit))
   unfolding answered answered_table
-  answered-rows e = rw e (rows_put (answer_rows s w hit) table)
+  answered_rows e = rw e (rows_put (answer_rows s w hit) table)
 
-  pub answered-session : answering s w (length table) hit ≡ Give → (answered s w table hit).session ≡ answer_session s w hit
+  pub answered_session : answering s w (length table) hit ≡ Give → (answered s w table hit).session ≡ answer_session s w hit
   unfolding answered
-  answered-session e = rw e
+  answered_session e = rw e
 
 -- # Fed
 
@@ -97,30 +97,30 @@ fed_wanting s k w piece e = go (eqb k 6) (eqb (recorded s).refusal 0) (eqb (leng
 -- # The machine's turn
 
 module _ (l : List ℕ) (s : Session) (w rest table : List ℕ) (size : length table ≡ table_size) where
-  in-text-gives : let hit = stands l (shown_line s w) in
+  in_text_gives : let hit = stands l (shown_line s w) in
       (answered s w table hit).refusal ≡ 0
       → turn_of (state_at Text l s w rest) ≡ goes (rows_text (answered s w table hit).rows (answered_table s w table hit)) (state_at Text l (answered s w table hit).session w rest)
   unfolding turn_of turns
-  in-text-gives h =
+  in_text_gives h =
       let hit = stands l (shown_line s w) in
-      let e : answering s w (length table) hit ≡ Give = answered-gives s w table hit h in
+      let e : answering s w (length table) hit ≡ Give = answered_gives s w table hit h in
       let d : answering s w table_size hit ≡ Give = ap (λ n. answering s w n hit) (sym size) ∙ e in
-      rw (d, answered-rows s w table hit e, answered-session s w table hit e)
+      rw (d, answered_rows s w table hit e, answered_session s w table hit e)
 
-  in-text-feeds : let hit = stands l (shown_line s w) in
+  in_text_feeds : let hit = stands l (shown_line s w) in
       ((answered s w table hit).refusal ≡ 0 → ⊥)
       → turn_of (state_at Text l s w rest) ≡ in_text l (feeds (search_for l) (state_at Text l s w rest).standing (answered s w table hit).refusal)
   unfolding turn_of turns
-  in-text-feeds h =
+  in_text_feeds h =
       let hit = stands l (shown_line s w) in
-      let d : answering s w table_size hit ≡ AnswerRefused (answered s w table hit).refusal = ap (λ n. answering s w n hit) (sym size) ∙ answered-refuses s w table hit h in
+      let d : answering s w table_size hit ≡ AnswerRefused (answered s w table hit).refusal = ap (λ n. answering s w n hit) (sym size) ∙ answered_refuses s w table hit h in
       rw d
 
 -- # What the code did
 
 -- how a turn in the text is begun: the line is shown, matched and answered
 pub record Asked (stage : Stage) (l : List ℕ) (s : Session) (w table : List ℕ) (line : List ℕ) (hit : Bool) (r : Answered) (after : List ℕ) : Type 0 where
-  pub in_text_lem : stage ≡ Text
+  pub in_text : stage ≡ Text
   pub size : length table ≡ table_size
   pub shows : line ≡ shown_line s w
   pub matches : hit ≡ stands l line
@@ -129,43 +129,43 @@ pub record Asked (stage : Stage) (l : List ℕ) (s : Session) (w table : List �
 
 module _ {stage : Stage} {l : List ℕ} {s : Session} {w table line : List ℕ} {hit : Bool} {r : Answered} {after : List ℕ} (a : Asked stage l s w table line hit r after) where
   -- the rows lie in the table
-  pub asked-rows : row_size * r.rows ≤ length table
+  pub asked_rows : row_size * r.rows ≤ length table
   unfolding door_answered
-  asked-rows = rw a.answers (rows_le s w table hit)
+  asked_rows = rw a.answers (rows_le s w table hit)
 
 module _ {stage : Stage} {l : List ℕ} {s : Session} {w table line : List ℕ} {hit : Bool} {r : Answered} {after : List ℕ} (a : Asked stage l s w table line hit r after) (rest : List ℕ) where
-  pub turn-gives : r.refusal ≡ 0 → turn_of (state_at stage l s w rest) ≡ goes (rows_text r.rows after) (state_at stage l r.searcher.session w rest)
+  pub turn_gives : r.refusal ≡ 0 → turn_of (state_at stage l s w rest) ≡ goes (rows_text r.rows after) (state_at stage l r.searcher.session w rest)
   unfolding door_answered
-  turn-gives h =
+  turn_gives h =
       let hit-is : hit ≡ stands l (shown_line s w) = a.matches ∙ ap (λ x. stands l x) a.shows in
       let served = rw (a.answers, hit-is) at h in
-      rw (a.in_text_lem, a.answers, a.writes, hit-is) (in-text-gives l s w rest table a.size served)
+      rw (a.in_text, a.answers, a.writes, hit-is) (in_text_gives l s w rest table a.size served)
 
-  turn-feeds : (r.refusal ≡ 0 → ⊥) → turn_of (state_at stage l s w rest) ≡ in_text l (feeds (search_for l) (state_at Text l s w rest).standing r.refusal)
+  turn_feeds : (r.refusal ≡ 0 → ⊥) → turn_of (state_at stage l s w rest) ≡ in_text l (feeds (search_for l) (state_at Text l s w rest).standing r.refusal)
   unfolding door_answered
-  turn-feeds h =
+  turn_feeds h =
       let hit-is : hit ≡ stands l (shown_line s w) = a.matches ∙ ap (λ x. stands l x) a.shows in
       let refused = rw (a.answers, hit-is) at h in
-      rw (a.in_text_lem, a.answers, hit-is) (in-text-feeds l s w rest table a.size refused)
+      rw (a.in_text, a.answers, hit-is) (in_text_feeds l s w rest table a.size refused)
 
   -- where no line waits
   module _ (h : r.refusal ≡ 0 → ⊥) (f : Fed) (e : f ≡ door_fed (fed s r.refusal w rest)) where
-    pub turn-goes : (window : List ℕ) → window ≡ fed_window s r.refusal w rest → f.next ≡ Goes
+    pub turn_goes : (window : List ℕ) → window ≡ fed_window s r.refusal w rest → f.next ≡ Goes
         → turn_of (state_at stage l s w rest) ≡ goes [] (state_at stage l f.searcher.session window (drop f.taken rest))
     unfolding feeds
-    turn-goes window d n = turn-feeds h ∙ rw (a.in_text_lem, d, e, sym (ap (λ x. x.next) e) ∙ n)
+    turn_goes window d n = turn_feeds h ∙ rw (a.in_text, d, e, sym (ap (λ x. x.next) e) ∙ n)
 
-    pub turn-wants : f.next ≡ Wants → turn_of (state_at stage l s w rest) ≡ wants (state_at stage l s w rest)
+    pub turn_wants : f.next ≡ Wants → turn_of (state_at stage l s w rest) ≡ wants (state_at stage l s w rest)
     unfolding feeds
-    turn-wants n =
+    turn_wants n =
         let next = sym (ap (λ x. x.next) e) ∙ n in
         let same = fed_wanting s r.refusal w rest next in
-        turn-feeds h ∙ rw (next, a.in_text_lem, same.0, same.1)
+        turn_feeds h ∙ rw (next, a.in_text, same.0, same.1)
 
-    pub turn-refuses : (k : ℕ) → f.next ≡ Refuses k → turn_of (state_at stage l s w rest) ≡ ends (refused_text k)
+    pub turn_refuses : (k : ℕ) → f.next ≡ Refuses k → turn_of (state_at stage l s w rest) ≡ ends (refused_text k)
     unfolding feeds
-    turn-refuses k n = turn-feeds h ∙ rw (sym (ap (λ x. x.next) e) ∙ n)
+    turn_refuses k n = turn_feeds h ∙ rw (sym (ap (λ x. x.next) e) ∙ n)
 
-    pub turn-ends : (end : End) → f.next ≡ Ends end → turn_of (state_at stage l s w rest) ≡ ends (end_text end)
+    pub turn_ends : (end : End) → f.next ≡ Ends end → turn_of (state_at stage l s w rest) ≡ ends (end_text end)
     unfolding feeds
-    turn-ends end n = turn-feeds h ∙ rw (sym (ap (λ x. x.next) e) ∙ n)
+    turn_ends end n = turn_feeds h ∙ rw (sym (ap (λ x. x.next) e) ∙ n)

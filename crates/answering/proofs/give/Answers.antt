@@ -8,7 +8,7 @@ use Rattle.session.specs.Sound.{sound}
 use Rattle.session.proofs.Keeps.{line_le}
 use Rattle.session.proofs.Parts.{part_length}
 use Rattle.held.proofs.Laws.{sound_of}
-use Rattle.answering.proofs.Laws.{given-refused, given-served, table-given}
+use Rattle.answering.proofs.Laws.{given_refused, given_served, table_given}
 use Rattle.answering.proofs.give.Goals as goal
 
 pub answer-given-requires : goal.answer-given-requires
@@ -27,7 +27,7 @@ returns-then-given-ne0 c =
     let gave : c.answer-given.result ≡ given c.args.s.walk (since c.args.s c.args.window.now) (line_length c.args.s c.args.window.now) c.args.table.now c.args.hit =
         rw c.requires.length_is at c.answer-given.ensures.value in
     record { value = c.refused.ensures
-          ∙ given-refused c.args.s c.args.window.now c.args.table.now c.args.hit sounds c.requires.waiting c.answer-given.result gave c.if-given-ne0.true; table_after = rw c.requires.length_is at c.answer-given.ensures.table_after ∙ table-given c.args.s c.args.window.now c.args.table.now c.args.hit sounds c.requires.waiting; }
+          ∙ given_refused c.args.s c.args.window.now c.args.table.now c.args.hit sounds c.requires.waiting c.answer-given.result gave c.if-given-ne0.true; table_after = rw c.requires.length_is at c.answer-given.ensures.table_after ∙ table_given c.args.s c.args.window.now c.args.table.now c.args.hit sounds c.requires.waiting; }
 
 pub step-after-requires : goal.step-after-requires
 step-after-requires c =
@@ -48,4 +48,4 @@ returns c =
     let gave : c.answer-given.result ≡ given c.args.s.walk (since c.args.s c.args.window.now) (line_length c.args.s c.args.window.now) c.args.table.now c.args.hit =
         rw c.requires.length_is at c.answer-given.ensures.value in
     record { value = rw (c.places_next-places.ensures, c.gets_row.ensures, c.step-after.ensures, c.requires.length_is)
-          (given-served c.args.s c.args.window.now c.args.table.now c.args.hit sounds c.requires.waiting c.answer-given.result gave (omega (arith, c.if-given-ne0.false))); table_after = rw c.requires.length_is at c.answer-given.ensures.table_after ∙ table-given c.args.s c.args.window.now c.args.table.now c.args.hit sounds c.requires.waiting; }
+          (given_served c.args.s c.args.window.now c.args.table.now c.args.hit sounds c.requires.waiting c.answer-given.result gave (omega (arith, c.if-given-ne0.false))); table_after = rw c.requires.length_is at c.answer-given.ensures.table_after ∙ table_given c.args.s c.args.window.now c.args.table.now c.args.hit sounds c.requires.waiting; }

@@ -5,11 +5,11 @@ use Rattle.session.specs.Held.{unanswered}
 use Rattle.session.specs.Place.{place_in}
 use Rattle.session.specs.Sound.{sound}
 use Rattle.session.proofs.Keeps.{sound_agrees, sound_window}
-use Rattle.asking.proofs.Laws.{at_front, shown-refused, shown-served}
+use Rattle.asking.proofs.Laws.{at_front, shown_refused, shown_served}
 use Rattle.asking.proofs.line.Goals as goal
 
 pub returns-then-not-is_sound : goal.returns-then-not-is_sound
-returns-then-not-is_sound c = let none = shown-refused c.args.s c.args.window.now (sym c.is_sound.ensures ∙ c.if-not-is_sound.true) in record { result_value = none.0; ref_ptr_value = at_front c.args.window.ref_ptr ∙ ap (place_in c.args.window.ref_ptr) none.1; }
+returns-then-not-is_sound c = let none = shown_refused c.args.s c.args.window.now (sym c.is_sound.ensures ∙ c.if-not-is_sound.true) in record { result_value = none.0; ref_ptr_value = at_front c.args.window.ref_ptr ∙ ap (place_in c.args.window.ref_ptr) none.1; }
 
 pub slice_bounds-line-count : goal.slice_bounds-line-count
 slice_bounds-line-count c =
@@ -45,4 +45,4 @@ unfolding unanswered
 returns c =
     let sounds : sound c.args.s (length c.args.window.now) ≡ true =
         sym c.is_sound.ensures ∙ c.if-not-is_sound.false in
-    let is = shown-served c.args.s c.args.window.now sounds in record { result_value = rw c.is_open.ensures at c.line.ensures.result_value ∙ is.0; ref_ptr_value = c.line.ensures.ref_ptr_value ∙ ap (place_in c.args.window.ref_ptr) is.1; }
+    let is = shown_served c.args.s c.args.window.now sounds in record { result_value = rw c.is_open.ensures at c.line.ensures.result_value ∙ is.0; ref_ptr_value = c.line.ensures.ref_ptr_value ∙ ap (place_in c.args.window.ref_ptr) is.1; }

@@ -5,11 +5,11 @@ use Rattle.driver_core.proofs.Laws.{waits_line, waits_none}
 use Rattle.session.specs.Held.{is_open, unanswered, waits}
 use Rattle.session.specs.Sound.{sound}
 use Rattle.session.proofs.Keeps.{sound_agrees, sound_window}
-use Rattle.asking.proofs.Laws.{waiting_line, waiting_none, waiting-refused}
+use Rattle.asking.proofs.Laws.{waiting_line, waiting_none, waiting_refused}
 use Rattle.asking.proofs.waiting.Goals as goal
 
 pub returns-then-not-is_sound : goal.returns-then-not-is_sound
-returns-then-not-is_sound c = waiting-refused c.args.s c.args.window.now (sym c.is_sound.ensures ∙ c.if-not-is_sound.true)
+returns-then-not-is_sound c = waiting_refused c.args.s c.args.window.now (sym c.is_sound.ensures ∙ c.if-not-is_sound.true)
 
 pub next_line-requires : goal.next_line-requires
 next_line-requires c =

@@ -2,7 +2,7 @@
 use Prim.Native.Nat.{◌-◌}
 use mathlib.Core.Path.{sym, ◌∙◌}
 use native.Mathlib.Omega.{arith}
-use Rattle.literal_places.proofs.Sweeps.{SweptTo, miss, no_start, swept_start, swept-one, swept_found, swept_none}
+use Rattle.literal_places.proofs.Sweeps.{SweptTo, miss, no_start, swept_start, swept_one, swept_found, swept_none}
 use Rattle.literal_places.proofs.Stands.{stands_at}
 use Rattle.literal_places.proofs.each.Given as goal
 

@@ -1,7 +1,7 @@
 -- Found backwards, then counted.
 use Rattle.std.proofs.Common.{◌≡◌, ◌≤◌, length, ap, ◌∙◌, arith, rules}
 use Rattle.match_rows.specs.MatchTable.{before_of}
-use Rattle.match_rows.proofs.Laws.{before-lines, from_le, lines-size}
+use Rattle.match_rows.proofs.Laws.{before_lines, from_le, lines_size}
 use Rattle.match_rows.proofs.before_lines.Goals as goal
 
 pub slice_bounds-count-count : goal.slice_bounds-count-count
@@ -28,5 +28,5 @@ unfolding before_of
 returns c =
     let start : c.preceding-from.result ≡ (before_of c.args.walk c.args.since.now).from =
         c.preceding-from.ensures in
-    let count = rw start at c.count.ensures ∙ ap length (before-lines c.args.walk c.args.since.now) ∙ lines-size c.args.walk c.args.since.now in
+    let count = rw start at c.count.ensures ∙ ap length (before_lines c.args.walk c.args.since.now) ∙ lines_size c.args.walk c.args.since.now in
     rw (start, count)

@@ -1,30 +1,30 @@
 -- Break, before rows and the match, one after the other.
 use Rattle.std.proofs.Common.{◌≤◌, length, arith, rules}
 use Rattle.match_rows.specs.MatchTable.{match_table}
-use Rattle.match_rows.proofs.Laws.{placing-fits, placing-from}
+use Rattle.match_rows.proofs.Laws.{placing_fits, placing_from}
 use Rattle.match_rows.proofs.put_match.Goals as goal
 
 pub slice_bounds-part-count : goal.slice_bounds-part-count
 slice_bounds-part-count c =
     let from-inside : c.args.before.from ≤ length c.args.since.now =
-        placing-from c.args.walk c.args.since.now c.args.length c.args.before c.args.gap c.args.table.now c.requires in
+        placing_from c.args.walk c.args.since.now c.args.length c.args.before c.args.gap c.args.table.now c.requires in
     from-inside
 
 pub slice_bounds-part-start : goal.slice_bounds-part-start
 slice_bounds-part-start c =
     let from-inside : c.args.before.from ≤ length c.args.since.now =
-        placing-from c.args.walk c.args.since.now c.args.length c.args.before c.args.gap c.args.table.now c.requires in
+        placing_from c.args.walk c.args.since.now c.args.length c.args.before c.args.gap c.args.table.now c.requires in
     let h = from-inside in
     search rules
 
 pub overflow_sub-offset : goal.overflow_sub-offset
 overflow_sub-offset c =
     let from-inside : c.args.before.from ≤ length c.args.since.now =
-        placing-from c.args.walk c.args.since.now c.args.length c.args.before c.args.gap c.args.table.now c.requires in
+        placing_from c.args.walk c.args.since.now c.args.length c.args.before c.args.gap c.args.table.now c.requires in
     omega (arith, from-inside)
 
 pub put_before-requires : goal.put_before-requires
-put_before-requires c = rw c.put_break.ensures (placing-fits c.args.walk c.args.since.now c.args.length c.args.before c.args.gap c.args.table.now c.requires)
+put_before-requires c = rw c.put_break.ensures (placing_fits c.args.walk c.args.since.now c.args.length c.args.before c.args.gap c.args.table.now c.requires)
 
 pub returns : goal.returns
 unfolding match_table

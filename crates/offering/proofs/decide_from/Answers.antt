@@ -4,7 +4,7 @@ use Rattle.definition.specs.Bounds.{max_input}
 use Rattle.session.specs.Held.{kept_from}
 use Rattle.session.specs.Sound.{taken_bytes}
 use Rattle.reaching.specs.Reached.{reached}
-use Rattle.offering.proofs.Laws.{path-front, path-size, path-stuck, path-take}
+use Rattle.offering.proofs.Laws.{path_front, path_size, path_stuck, path_take}
 use Rattle.offering.proofs.decide_from.Goals as goal
 
 pub overflow_sub-free : goal.overflow_sub-free
@@ -25,7 +25,7 @@ pub returns-then-reach : goal.returns-then-reach
 returns-then-reach c =
     let reach-as : c.reaches-reach.result ≡ reached c.args.s.walk.settings.binary c.args.piece.now (min (c.args.s.places.window - (c.args.s.places.end - c.args.from)) (max_input - taken_bytes c.args.s)) =
         rw (c.least.ensures, c.taken_bytes-left.ensures) at c.reaches-reach.ensures in
-    path-front c.args.s c.args.window.now c.args.piece.now c.args.from c.requires.sounded c.requires.piece_value (rw (reach-as) at c.if-reach.true)
+    path_front c.args.s c.args.window.now c.args.piece.now c.args.from c.requires.sounded c.requires.piece_value (rw (reach-as) at c.if-reach.true)
 
 pub returns-then-left-eq0 : goal.returns-then-left-eq0
 returns-then-left-eq0 c =
@@ -33,7 +33,7 @@ returns-then-left-eq0 c =
         rw (c.least.ensures, c.taken_bytes-left.ensures) at c.reaches-reach.ensures in
     let left_as : c.taken_bytes-left.result ≡ taken_bytes c.args.s =
         c.taken_bytes-left.ensures in
-    path-size c.args.s c.args.window.now c.args.piece.now c.args.from c.requires.sounded c.requires.piece_value (rw (reach-as) at c.if-reach.false)
+    path_size c.args.s c.args.window.now c.args.piece.now c.args.from c.requires.sounded c.requires.piece_value (rw (reach-as) at c.if-reach.false)
     (rw left_as at c.if-left-eq0.true)
 
 pub is_stuck-requires : goal.is_stuck-requires
@@ -45,7 +45,7 @@ returns-then-is_stuck c =
         rw (c.least.ensures, c.taken_bytes-left.ensures) at c.reaches-reach.ensures in
     let left_as : c.taken_bytes-left.result ≡ taken_bytes c.args.s =
         c.taken_bytes-left.ensures in
-    path-stuck c.args.s c.args.window.now c.args.piece.now c.args.from c.requires.sounded c.requires.piece_value (rw (reach-as) at c.if-reach.false)
+    path_stuck c.args.s c.args.window.now c.args.piece.now c.args.from c.requires.sounded c.requires.piece_value (rw (reach-as) at c.if-reach.false)
     (rw left_as at c.if-left-eq0.false) (sym c.is_stuck.ensures ∙ c.if-is_stuck.true)
 
 pub returns : goal.returns
@@ -55,5 +55,5 @@ returns c =
     let left_as : c.taken_bytes-left.result ≡ taken_bytes c.args.s =
         c.taken_bytes-left.ensures in
     rw (reach-as)
-    (path-take c.args.s c.args.window.now c.args.piece.now c.args.from c.requires.sounded c.requires.piece_value (rw (reach-as) at c.if-reach.false)
+    (path_take c.args.s c.args.window.now c.args.piece.now c.args.from c.requires.sounded c.requires.piece_value (rw (reach-as) at c.if-reach.false)
     (rw left_as at c.if-left-eq0.false) (sym c.is_stuck.ensures ∙ c.if-is_stuck.false))

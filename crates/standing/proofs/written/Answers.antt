@@ -1,0 +1,6 @@
+-- Only what is pending changes.
+use borrow.Author.Rules.{rules}
+use Rattle.standing.proofs.written.Goals as goal
+
+pub returns : goal.returns
+returns c = rw c.nothing_pending.ensures
