@@ -17,7 +17,7 @@ use Rattle.line_buffer.specs.Buffer.{rolled}
 use Rattle.rare_bytes.specs.declared.Pair.{Pair}
 use Rattle.machine.specs.Machine.{ends, goes, wants}
 use Rattle.searcher.specs.declared.Opened.{Opened}
-use Rattle.searcher.specs.Door.{door_opened, searcher}
+use Rattle.searcher.specs.Door.{door_opened}
 use Rattle.session.specs.declared.OpenOutcome.{OpenOutcome}
 use Rattle.session.specs.declared.Session.{Session}
 use Rattle.session.specs.Calls.{opened}

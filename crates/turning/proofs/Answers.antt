@@ -1,5 +1,5 @@
 -- Laws of a turn in the text: what the code did is what the machine does.
-use Rattle.std.proofs.Common.{◌≡◌, ℕ, ◌-◌, ◌*◌, ◌≤◌, Bool, true, false, cond, not, eqb, List, [], map, length, drop, sym, refl, ap, ◌∙◌, arith, eqb-true}
+use Rattle.std.proofs.Common.{◌≡◌, ℕ, ◌*◌, ◌≤◌, Bool, true, false, cond, not, eqb, List, [], map, length, drop, sym, refl, ap, ◌∙◌, arith, eqb-true}
 use mathlib.Core.List.{flatten}
 use Rattle.definition.specs.declared.End.{End}
 use Rattle.definition.specs.declared.Row.{Row}

@@ -1,7 +1,6 @@
 -- The tests are the definition's, one by one.
 use Rattle.driver_core.specs.Walk.{walk_agrees, walk_tests}
 use Rattle.driver_core.proofs.Laws.{joined_every}
-use Rattle.std.proofs.Common.{rules}
 use Rattle.agreeing.proofs.agree.Goals as goal
 
 pub returns : goal.returns

@@ -1,6 +1,5 @@
 -- The tests are the definition's, one by one.
 use Rattle.definition.specs.Bounds.{allowed}
-use Rattle.std.proofs.Common.{rules}
 use Rattle.agreeing.proofs.are_allowed.Goals as goal
 
 pub returns : goal.returns

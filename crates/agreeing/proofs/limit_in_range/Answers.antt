@@ -1,5 +1,4 @@
 -- By the limit: none, or a number.
-use Rattle.std.proofs.Common.{rules}
 use Rattle.agreeing.proofs.limit_in_range.Goals as goal
 
 pub returns-in-Most : goal.returns-in-Most

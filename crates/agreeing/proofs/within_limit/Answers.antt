@@ -1,5 +1,4 @@
 -- By the limit: none, or a number.
-use Rattle.std.proofs.Common.{rules}
 use Rattle.agreeing.proofs.within_limit.Goals as goal
 
 pub returns-in-Most : goal.returns-in-Most

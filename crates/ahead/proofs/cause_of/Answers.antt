@@ -1,5 +1,4 @@
 -- A stop first, else by the Quit byte.
-use Rattle.std.proofs.Common.{rules}
 use Rattle.ahead.proofs.cause_of.Goals as goal
 
 pub returns-in-On : goal.returns-in-On

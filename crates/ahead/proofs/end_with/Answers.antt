@@ -1,6 +1,5 @@
 -- By the place: flagged, or none.
 use Rattle.driver_core.specs.Walk.{walk_end}
-use Rattle.std.proofs.Common.{rules}
 use Rattle.ahead.proofs.end_with.Goals as goal
 
 pub returns-in-Nowhere : goal.returns-in-Nowhere

@@ -1,6 +1,5 @@
 -- The tests are the definition's.
 use Rattle.driver_core.specs.Walk.{remains_ahead}
-use Rattle.std.proofs.Common.{rules}
 use Rattle.ahead.proofs.is_unfinished.Goals as goal
 
 pub returns : goal.returns

@@ -1,6 +1,5 @@
 -- After a stop none; else up to the terminator found, or the rest.
-use Rattle.std.proofs.Common.{◌≡◌, true, sym, ◌∙◌, arith, rules}
-use borrow.Author.Tests.{not-true, not-false}
+use Rattle.std.proofs.Common.{◌≡◌, true, sym, ◌∙◌, arith}
 use Rattle.lines.specs.declared.Found.TheVariants.{At}
 use Rattle.lines.specs.Lines.{found}
 use Rattle.lines.proofs.Laws.{found_at}
@@ -14,19 +13,19 @@ returns-then-not-is_on c = line_none c.args.walk c.args.more c.args.ahead.now (s
 pub overflow_add-result : goal.overflow_add-result
 overflow_add-result c =
     let found_here : At c.in-At.i ≡ found c.args.walk.settings.terminator c.args.ahead.now =
-        sym c.in-At.is ∙ c.find.ensures in
+    sym c.in-At.is ∙ c.find.ensures in
     omega (arith, found_at c.args.walk.settings.terminator c.in-At.i c.args.ahead.now found_here, c.well_formed)
 
 pub returns-in-At : goal.returns-in-At
 returns-in-At c =
     let goes : is_on c.args.walk.going ≡ true =
-        sym c.is_on.ensures ∙ c.if-not-is_on.false in
+    sym c.is_on.ensures ∙ c.if-not-is_on.false in
     let found_here : At c.in-At.i ≡ found c.args.walk.settings.terminator c.args.ahead.now =
-        sym c.in-At.is ∙ c.find.ensures in
+    sym c.in-At.is ∙ c.find.ensures in
     line_found c.args.walk c.args.more c.args.ahead.now c.in-At.i goes found_here
 
 pub returns-in-Nothing : goal.returns-in-Nothing
 returns-in-Nothing c =
     let goes : is_on c.args.walk.going ≡ true =
-        sym c.is_on.ensures ∙ c.if-not-is_on.false in
+    sym c.is_on.ensures ∙ c.if-not-is_on.false in
     c.rest.ensures ∙ line_rest c.args.walk c.args.more c.args.ahead.now goes (sym c.in-Nothing.is ∙ c.find.ensures)

@@ -1,6 +1,5 @@
 -- The floor follows where the line has a row of its own.
 use Rattle.session.specs.Calls.{places_next}
-use Rattle.std.proofs.Common.{rules}
 use Rattle.answering.proofs.places_next.Goals as goal
 
 pub returns-then-row : goal.returns-then-row

@@ -1,6 +1,5 @@
 -- Refused, a line, or none.
-use Rattle.std.proofs.Common.{◌≡◌, true, length, sym, ◌∙◌, arith, rules}
-use borrow.Author.Tests.{not-false, not-true}
+use Rattle.std.proofs.Common.{◌≡◌, true, length, sym, ◌∙◌, arith}
 use Rattle.driver_core.proofs.Laws.{waits_line, waits_none}
 use Rattle.session.specs.Held.{is_open, unanswered, waits}
 use Rattle.session.specs.Sound.{sound}
@@ -14,7 +13,7 @@ returns-then-not-is_sound c = waiting_refused c.args.s c.args.window.now (sym c.
 pub next_line-requires : goal.next_line-requires
 next_line-requires c =
     let sounds : sound c.args.s (length c.args.window.now) ≡ true =
-        sym c.is_sound.ensures ∙ c.if-not-is_sound.false in
+    sym c.is_sound.ensures ∙ c.if-not-is_sound.false in
     let p = (sound_agrees c.args.s (length c.args.window.now) sounds).places in
     (p.next_end, omega (arith, p, sound_window c.args.s (length c.args.window.now) sounds))
 
@@ -22,7 +21,7 @@ pub returns-in-Line : goal.returns-in-Line
 unfolding waits
 returns-in-Line c =
     let sounds : sound c.args.s (length c.args.window.now) ≡ true =
-        sym c.is_sound.ensures ∙ c.if-not-is_sound.false in
+    sym c.is_sound.ensures ∙ c.if-not-is_sound.false in
     let line =
     waits_line c.args.s.walk (is_open c.args.s.places.input) (unanswered c.args.s c.args.window.now) _ (sym c.in-Line.is ∙ c.next_line.ensures) in
     waiting_line c.args.s c.args.window.now sounds line.0
@@ -31,7 +30,7 @@ pub returns-in-NoLine : goal.returns-in-NoLine
 unfolding waits
 returns-in-NoLine c =
     let sounds : sound c.args.s (length c.args.window.now) ≡ true =
-        sym c.is_sound.ensures ∙ c.if-not-is_sound.false in
+    sym c.is_sound.ensures ∙ c.if-not-is_sound.false in
     let none =
     waits_none c.args.s.walk (is_open c.args.s.places.input) (unanswered c.args.s c.args.window.now) (sym c.in-NoLine.is ∙ c.next_line.ensures) in
     waiting_none c.args.s c.args.window.now sounds none

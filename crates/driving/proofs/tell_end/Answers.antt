@@ -1,7 +1,6 @@
 -- The searcher comes back as it is where telling the end is refused, else with the end told.
 use mathlib.Core.Path.{◌∙◌}
 use Rattle.driving.proofs.Laws.{end_refused, end_served}
-use borrow.Author.Rules.{rules}
 use Rattle.driving.proofs.tell_end.Goals as goal
 
 pub returns-then-told-ne0 : goal.returns-then-told-ne0

@@ -1,5 +1,4 @@
 -- By the place.
-use borrow.Author.Rules.{rules}
 use Rattle.ending.proofs.gone_through.Goals as goal
 
 pub returns-in-At : goal.returns-in-At

@@ -1,5 +1,4 @@
 -- The place, or none.
-use borrow.Author.Rules.{rules}
 use Rattle.ending.proofs.only_if.Goals as goal
 
 pub returns-then-b : goal.returns-then-b

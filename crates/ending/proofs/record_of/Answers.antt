@@ -1,6 +1,5 @@
 -- Cause and place, laid out.
 use Rattle.session.specs.Calls.{record_of}
-use borrow.Author.Rules.{rules}
 use Rattle.ending.proofs.record_of.Goals as goal
 
 pub returns : goal.returns

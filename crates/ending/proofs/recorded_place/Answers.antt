@@ -3,7 +3,6 @@ use mathlib.Core.Path.{ap}
 use borrow.Author.Tests.{eq-eqb, ne_eqb}
 use Rattle.definition.specs.declared.Place.TheVariants.{At}
 use Rattle.session.specs.Calls.{recorded_place}
-use borrow.Author.Rules.{rules}
 use Rattle.ending.proofs.recorded_place.Goals as goal
 
 pub returns-then-cause-eq1 : goal.returns-then-cause-eq1

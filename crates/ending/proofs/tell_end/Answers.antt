@@ -1,8 +1,6 @@
 -- Refused, or told.
 use mathlib.Core.Path.{sym, ◌∙◌}
-use borrow.Author.Tests.{not-false, not-true}
 use Rattle.ending.proofs.Laws.{told_refused, told_served}
-use borrow.Author.Rules.{rules}
 use Rattle.ending.proofs.tell_end.Goals as goal
 
 pub returns-then-not-agree : goal.returns-then-not-agree

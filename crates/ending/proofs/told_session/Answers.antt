@@ -1,6 +1,5 @@
 -- Only the input changes.
 use Rattle.session.specs.Calls.{told_session}
-use borrow.Author.Rules.{rules}
 use Rattle.ending.proofs.told_session.Goals as goal
 
 pub returns : goal.returns

@@ -1,6 +1,5 @@
 -- Each test is one of the definition.
 use Rattle.forms.specs.First.{are_right}
-use borrow.Author.Rules.{rules}
 use Rattle.forms.proofs.are_right.Goals as goal
 
 pub returns : goal.returns

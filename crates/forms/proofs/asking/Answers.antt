@@ -1,7 +1,5 @@
 -- The test decides, then the limit.
 use mathlib.Core.Path.{sym, ◌∙◌}
-use borrow.Author.Tests.{not-false, not-true}
-use borrow.Author.Rules.{rules}
 use Rattle.forms.proofs.asking.Goals as goal
 
 pub returns-then-not-are_right : goal.returns-then-not-are_right

@@ -1,6 +1,5 @@
 -- The words one by one.
 use Rattle.forms.specs.First.{asked_of}
-use borrow.Author.Rules.{rules}
 use Rattle.forms.proofs.first_line.Goals as goal
 
 pub returns : goal.returns

@@ -1,7 +1,6 @@
 -- A dash, or what the number says.
 use mathlib.Core.Path.{sym, ◌∙◌}
 use Rattle.forms.specs.Limits.{limit_of}
-use borrow.Author.Rules.{rules}
 use Rattle.forms.proofs.limit.Goals as goal
 
 pub returns-then-is_dash : goal.returns-then-is_dash

@@ -1,6 +1,5 @@
 -- Field by field.
 use Rattle.forms.specs.First.{settings_of}
-use borrow.Author.Rules.{rules}
 use Rattle.forms.proofs.settings_for.Goals as goal
 
 pub returns : goal.returns

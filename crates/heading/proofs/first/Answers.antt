@@ -2,7 +2,7 @@
 use Prim.Native.Nat.{◌+◌, ◌≤◌, ◌<◌}
 use mathlib.Core.Path.{◌≡◌, sym, ◌∙◌, ap}
 use native.Mathlib.Omega.{arith}
-use lib.ListN.{length, take}
+use lib.ListN.{take}
 use Rattle.definition.specs.Text.{part}
 use Rattle.forms.specs.declared.Asked.TheVariants.{OtherForm}
 use Rattle.forms.specs.First.{asked_of}
@@ -11,52 +11,51 @@ use Rattle.search_machine.specs.Head.{longest, looked_at}
 use Rattle.printing.specs.Texts.{refused_text}
 use Rattle.heading.proofs.Heads.{first_asks, first_long, first_unfinished, inside, looked_few, once_opened, once_over, once_wants}
 use Rattle.search_machine.proofs.Places.{part_take}
-use borrow.Author.Rules.{rules}
 use Rattle.heading.proofs.first.Goals as goal
 
 pub overflow_add-end : goal.overflow_add-end
 overflow_add-end c =
     let whole : Whole c.in-Whole.length ≡ looked_at (part c.args.s.from c.args.s.to c.args.input.now) =
-        sym c.in-Whole.is ∙ c.look.ensures in
+    sym c.in-Whole.is ∙ c.look.ensures in
     let placed : (c.in-Whole.length ≤ longest) × (c.args.s.from + c.in-Whole.length < c.args.s.to) =
-        inside c.args.s c.args.window.now c.args.literal.now c.args.input.now c.args.out.now c.requires.1 c.in-Whole.length whole in
+    inside c.args.s c.args.window.now c.args.literal.now c.args.input.now c.args.out.now c.requires.1 c.in-Whole.length whole in
     omega (arith, placed, c.requires.1.placed, c.well_formed)
 
 pub slice_bounds-first_line-end : goal.slice_bounds-first_line-end
 slice_bounds-first_line-end c =
     let whole : Whole c.in-Whole.length ≡ looked_at (part c.args.s.from c.args.s.to c.args.input.now) =
-        sym c.in-Whole.is ∙ c.look.ensures in
+    sym c.in-Whole.is ∙ c.look.ensures in
     let placed : (c.in-Whole.length ≤ longest) × (c.args.s.from + c.in-Whole.length < c.args.s.to) =
-        inside c.args.s c.args.window.now c.args.literal.now c.args.input.now c.args.out.now c.requires.1 c.in-Whole.length whole in
+    inside c.args.s c.args.window.now c.args.literal.now c.args.input.now c.args.out.now c.requires.1 c.in-Whole.length whole in
     omega (arith, placed, c.requires.1.placed)
 
 pub overflow_add-end-in-For : goal.overflow_add-end-in-For
 overflow_add-end-in-For c =
     let whole : Whole c.in-Whole.length ≡ looked_at (part c.args.s.from c.args.s.to c.args.input.now) =
-        sym c.in-Whole.is ∙ c.look.ensures in
+    sym c.in-Whole.is ∙ c.look.ensures in
     let placed : (c.in-Whole.length ≤ longest) × (c.args.s.from + c.in-Whole.length < c.args.s.to) =
-        inside c.args.s c.args.window.now c.args.literal.now c.args.input.now c.args.out.now c.requires.1 c.in-Whole.length whole in
+    inside c.args.s c.args.window.now c.args.literal.now c.args.input.now c.args.out.now c.requires.1 c.in-Whole.length whole in
     omega (arith, placed, c.requires.1.placed, c.well_formed)
 
 pub returns-in-For : goal.returns-in-For
 returns-in-For c =
     let whole : Whole c.in-Whole.length ≡ looked_at (part c.args.s.from c.args.s.to c.args.input.now) =
-        sym c.in-Whole.is ∙ c.look.ensures in
+    sym c.in-Whole.is ∙ c.look.ensures in
     let placed : (c.in-Whole.length ≤ longest) × (c.args.s.from + c.in-Whole.length < c.args.s.to) =
-        inside c.args.s c.args.window.now c.args.literal.now c.args.input.now c.args.out.now c.requires.1 c.in-Whole.length whole in
+    inside c.args.s c.args.window.now c.args.literal.now c.args.input.now c.args.out.now c.requires.1 c.in-Whole.length whole in
     let line : part c.args.s.from (c.args.s.from + c.in-Whole.length) c.args.input.now ≡ take c.in-Whole.length (part c.args.s.from c.args.s.to c.args.input.now) =
-        part_take c.args.s.from c.args.s.to c.in-Whole.length c.args.input.now (omega (arith, placed)) in
+    part_take c.args.s.from c.args.s.to c.in-Whole.length c.args.input.now (omega (arith, placed)) in
     let asked = sym c.in-For.is ∙ c.first_line.ensures ∙ ap asked_of line in
     once_opened c.args.s c.args.window.now c.args.literal.now c.args.input.now c.args.out.now c.requires.1 c.in-Whole.length c.in-For.settings c.requires.0 whole asked _ _ c.open.ensures
 
 pub returns-in-OtherForm : goal.returns-in-OtherForm
 returns-in-OtherForm c =
     let whole : Whole c.in-Whole.length ≡ looked_at (part c.args.s.from c.args.s.to c.args.input.now) =
-        sym c.in-Whole.is ∙ c.look.ensures in
+    sym c.in-Whole.is ∙ c.look.ensures in
     let placed : (c.in-Whole.length ≤ longest) × (c.args.s.from + c.in-Whole.length < c.args.s.to) =
-        inside c.args.s c.args.window.now c.args.literal.now c.args.input.now c.args.out.now c.requires.1 c.in-Whole.length whole in
+    inside c.args.s c.args.window.now c.args.literal.now c.args.input.now c.args.out.now c.requires.1 c.in-Whole.length whole in
     let line : part c.args.s.from (c.args.s.from + c.in-Whole.length) c.args.input.now ≡ take c.in-Whole.length (part c.args.s.from c.args.s.to c.args.input.now) =
-        part_take c.args.s.from c.args.s.to c.in-Whole.length c.args.input.now (omega (arith, placed)) in
+    part_take c.args.s.from c.args.s.to c.in-Whole.length c.args.input.now (omega (arith, placed)) in
     let rest = part c.args.s.from c.args.s.to c.args.input.now in
     let asked = sym c.in-OtherForm.is ∙ c.first_line.ensures ∙ ap asked_of line in
     rw c.over.ensures

@@ -7,7 +7,6 @@ use Rattle.definition.specs.Text.{first_place}
 use Rattle.lines.proofs.Laws.{found_at, found_nothing}
 use Rattle.search_machine.specs.Head.{longest, looked_at}
 use Rattle.printing.specs.Texts.{newline}
-use borrow.Author.Rules.{rules}
 use Rattle.heading.proofs.look.Goals as goal
 
 pub returns-then-length-le-LONGEST : goal.returns-then-length-le-LONGEST

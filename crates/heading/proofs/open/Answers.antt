@@ -1,7 +1,6 @@
 -- The opening is refused, and that is told; or it is served.
 use Rattle.session.specs.Calls.{opened}
 use Rattle.heading.proofs.Heads.{opened_refused, opened_served}
-use borrow.Author.Rules.{rules}
 use Rattle.heading.proofs.open.Goals as goal
 
 pub returns-then-opened-ne0 : goal.returns-then-opened-ne0

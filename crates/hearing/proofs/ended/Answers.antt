@@ -4,7 +4,6 @@ use Rattle.definition.specs.Text.{part}
 use Rattle.streams.specs.declared.Moved.TheVariants.{Nothing}
 use Rattle.printing.specs.Texts.{refused_text}
 use Rattle.hearing.proofs.Hearings.{first_ended, heard_over, second_ended}
-use borrow.Author.Rules.{rules}
 use Rattle.hearing.proofs.ended.Goals as goal
 
 pub returns-in-First : goal.returns-in-First

@@ -3,7 +3,6 @@ use native.Mathlib.Omega.{arith}
 use Rattle.streams.specs.Moves.{failed_read}
 use Rattle.hearing.proofs.Hearings.{bytes_heard, end_heard, failure_heard, fits_heard, signal_heard}
 use Rattle.printing.proofs.Laws.{put_tells}
-use borrow.Author.Rules.{rules}
 use Rattle.hearing.proofs.heard.Goals as goal
 
 pub more-requires : goal.more-requires

@@ -4,7 +4,6 @@ use Rattle.definition.specs.Text.{part}
 use Rattle.streams.specs.declared.Moved.TheVariants.{Nothing}
 use Rattle.printing.specs.Texts.{end_text, refused_text}
 use Rattle.hearing.proofs.Hearings.{heard_over, heard_told, text_ends, text_goes, text_refuses, told_wants}
-use borrow.Author.Rules.{rules}
 use Rattle.hearing.proofs.text_ended.Goals as goal
 
 pub returns-in-Goes : goal.returns-in-Goes

@@ -1,6 +1,5 @@
 -- The list, and the length of the window lent.
 use Rattle.session.specs.Sound.{sound}
-use Rattle.std.proofs.Common.{rules}
 use Rattle.held.proofs.is_sound.Goals as goal
 
 pub returns : goal.returns

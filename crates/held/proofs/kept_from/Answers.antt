@@ -1,5 +1,5 @@
 -- What the last kept lines read backwards leave before them.
-use Rattle.std.proofs.Common.{◌≡◌, arith, rules}
+use Rattle.std.proofs.Common.{◌≡◌, arith}
 use Rattle.definition.specs.Definition.{kept_lines}
 use Rattle.definition.specs.Text.{part}
 use Rattle.lines.specs.Lines.{last_start}

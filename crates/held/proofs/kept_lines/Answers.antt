@@ -1,5 +1,5 @@
 -- With context one line more than comes as before-context, else none.
-use Rattle.std.proofs.Common.{sym, ◌∙◌, rules}
+use Rattle.std.proofs.Common.{sym, ◌∙◌}
 use Rattle.definition.specs.Definition.{kept_lines}
 use Rattle.held.proofs.kept_lines.Goals as goal
 

@@ -1,6 +1,5 @@
 -- As the core finds it in the part held unanswered.
 use Rattle.session.specs.Held.{unanswered}
-use Rattle.std.proofs.Common.{rules}
 use Rattle.held.proofs.next_line.Goals as goal
 
 pub returns : goal.returns

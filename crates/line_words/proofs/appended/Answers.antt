@@ -2,7 +2,6 @@
 use mathlib.Core.Path.{sym}
 use native.Mathlib.Omega.{arith}
 use Rattle.line_words.proofs.Laws.{not_high, not_low, one_more, too_large}
-use borrow.Author.Rules.{rules}
 use Rattle.line_words.proofs.appended.Goals as goal
 
 pub returns-then-glyph-lt48 : goal.returns-then-glyph-lt48

@@ -2,7 +2,6 @@
 use mathlib.Core.Path.{sym, ◌∙◌}
 use native.Mathlib.Omega.{arith}
 use Rattle.line_words.proofs.Laws.{decimal_empty, decimal_more, decimal_one, decimal_zero}
-use borrow.Author.Rules.{rules}
 use Rattle.line_words.proofs.decimal.Goals as goal
 
 pub returns-then-word-eq0 : goal.returns-then-word-eq0

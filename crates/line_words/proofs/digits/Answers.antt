@@ -1,10 +1,6 @@
 -- What is left of the word, behind the value so far, says what the whole word says.
-use mathlib.Core.Path.{sym, ◌∙◌, ◌≡◌, refl}
-use Prim.Native.Nat.{◌-◌, ◌≤◌, ◌<◌}
-use lib.ListN.{length, drop}
+use mathlib.Core.Path.{sym, ◌∙◌, refl}
 use native.Mathlib.Omega.{arith}
-use borrow.Author.Rules.{rules}
-use Rattle.line_words.specs.Numbers.{digits_behind, top}
 use Rattle.line_words.proofs.Laws.{digits_none, digits_step, digits_stop}
 use Rattle.line_words.proofs.digits.Goals as goal
 

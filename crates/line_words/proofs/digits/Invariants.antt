@@ -1,11 +1,8 @@
 -- What is left of the word, behind the value so far, says what the whole word says.
-use mathlib.Core.Path.{sym, ◌∙◌, ◌≡◌, refl}
+use mathlib.Core.Path.{◌≡◌}
 use Prim.Native.Nat.{◌-◌, ◌≤◌, ◌<◌}
 use lib.ListN.{length, drop}
-use native.Mathlib.Omega.{arith}
-use borrow.Author.Rules.{rules}
 use Rattle.line_words.specs.Numbers.{digits_behind, top}
-use Rattle.line_words.proofs.Laws.{digits_none, digits_step, digits_stop}
 use Rattle.line_words.proofs.digits.Given as goal
 
 abbrev pub invariant-loop-i : goal.invariant-loop-i

@@ -6,7 +6,6 @@ use Rattle.definition.proofs.Terminator.{up_to_none}
 use Rattle.lines.proofs.Laws.{found_at, found_nothing}
 use Rattle.line_words.specs.Words.{space}
 use Rattle.line_words.proofs.Laws.{up_to_place}
-use borrow.Author.Rules.{rules}
 use Rattle.line_words.proofs.first_word.Goals as goal
 
 pub slice_bounds-result-end : goal.slice_bounds-result-end

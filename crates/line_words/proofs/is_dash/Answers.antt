@@ -1,7 +1,6 @@
 -- A dash is a word of one byte.
 use mathlib.Core.Path.{sym}
 use Rattle.line_words.proofs.Laws.{dash_not, dash_one}
-use borrow.Author.Rules.{rules}
 use Rattle.line_words.proofs.is_dash.Goals as goal
 
 pub returns-then-word-eq1 : goal.returns-then-word-eq1

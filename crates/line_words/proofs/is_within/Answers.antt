@@ -1,5 +1,4 @@
 -- A number is compared, and what is none is not within.
-use borrow.Author.Rules.{rules}
 use Rattle.line_words.proofs.is_within.Goals as goal
 
 pub returns-in-Value : goal.returns-in-Value

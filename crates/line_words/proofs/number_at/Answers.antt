@@ -1,7 +1,6 @@
 -- The number that the word writes.
 use mathlib.Core.Path.{◌∙◌, ap}
 use Rattle.line_words.specs.Numbers.{decimal_of}
-use borrow.Author.Rules.{rules}
 use Rattle.line_words.proofs.number_at.Goals as goal
 
 pub returns : goal.returns

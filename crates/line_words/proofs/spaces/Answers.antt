@@ -1,9 +1,5 @@
 -- The spaces counted and those of the rest are all.
-use mathlib.Core.Path.{◌≡◌}
-use Prim.Native.Nat.{◌+◌, ◌-◌, ◌≤◌}
-use lib.ListN.{length, drop}
 use native.Mathlib.Omega.{arith}
-use Rattle.line_words.specs.Words.{spaces_of}
 use Rattle.line_words.proofs.Laws.{spaces_here, spaces_le, spaces_none}
 use Rattle.line_words.proofs.spaces.Goals as goal
 

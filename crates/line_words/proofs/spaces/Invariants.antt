@@ -2,9 +2,7 @@
 use mathlib.Core.Path.{◌≡◌}
 use Prim.Native.Nat.{◌+◌, ◌-◌, ◌≤◌}
 use lib.ListN.{length, drop}
-use native.Mathlib.Omega.{arith}
 use Rattle.line_words.specs.Words.{spaces_of}
-use Rattle.line_words.proofs.Laws.{spaces_here, spaces_le, spaces_none}
 use Rattle.line_words.proofs.spaces.Given as goal
 
 abbrev pub invariant-loop-i : goal.invariant-loop-i

@@ -4,7 +4,6 @@ use Prim.Native.Nat.{◌+◌, ◌-◌, ◌≤◌}
 use lib.ListN.{length, drop, length-drop}
 use lib.Seq.{take_all}
 use native.Mathlib.Omega.{arith}
-use borrow.Author.Rules.{rules}
 use Rattle.definition.specs.Text.{first_length, up_to}
 use Rattle.line_words.specs.Words.{space, word_of}
 use Rattle.line_words.proofs.Laws.{word_past}
@@ -16,7 +15,7 @@ loop-left-init c = (omega arith, refl)
 pub overflow_add-from : goal.overflow_add-from
 overflow_add-from c =
     let stepped : (c.step-from.result ≡ first_length space (drop c.loop-left.from c.args.line.now)) × (c.loop-left.from + c.step-from.result ≤ length c.args.line.now) =
-        let rest = drop c.loop-left.from c.args.line.now in
+    let rest = drop c.loop-left.from c.args.line.now in
     let size = length-drop c.loop-left.from c.args.line.now in
     let first : c.step-from.result ≡ first_length space rest =
     rw (take_all (length c.args.line.now - c.loop-left.from) rest (omega arith)) at c.step-from.ensures
@@ -27,7 +26,7 @@ overflow_add-from c =
 pub loop-left-preserved : goal.loop-left-preserved
 loop-left-preserved c =
     let stepped : (c.step-from.result ≡ first_length space (drop c.loop-left.from c.args.line.now)) × (c.loop-left.from + c.step-from.result ≤ length c.args.line.now) =
-        let rest = drop c.loop-left.from c.args.line.now in
+    let rest = drop c.loop-left.from c.args.line.now in
     let size = length-drop c.loop-left.from c.args.line.now in
     let first : c.step-from.result ≡ first_length space rest =
     rw (take_all (length c.args.line.now - c.loop-left.from) rest (omega arith)) at c.step-from.ensures

@@ -1,13 +1,8 @@
 -- The word wanted is one of the rest of the line, after as many spaces as are left to pass.
-use mathlib.Core.Path.{◌≡◌, refl, sym, ◌∙◌, ap}
-use Prim.Native.Nat.{◌+◌, ◌-◌, ◌≤◌}
-use lib.ListN.{length, drop, length-drop}
-use lib.Seq.{take_all}
-use native.Mathlib.Omega.{arith}
-use borrow.Author.Rules.{rules}
-use Rattle.definition.specs.Text.{first_length, up_to}
-use Rattle.line_words.specs.Words.{space, word_of}
-use Rattle.line_words.proofs.Laws.{word_past}
+use mathlib.Core.Path.{◌≡◌}
+use Prim.Native.Nat.{◌≤◌}
+use lib.ListN.{length, drop}
+use Rattle.line_words.specs.Words.{word_of}
 use Rattle.line_words.proofs.word.Given as goal
 
 abbrev pub invariant-loop-left : goal.invariant-loop-left

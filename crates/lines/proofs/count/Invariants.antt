@@ -1,11 +1,8 @@
 -- The lines counted and those from the place on are all the lines.
-use Prim.Native.Nat.{◌+◌, ◌-◌, ◌≤◌, ◌<◌}
-use mathlib.Core.Path.{◌≡◌, sym, ap}
-use native.Mathlib.Omega.{arith}
-use lib.ListN.{length, drop, drop_of_length-le}
-use borrow.Author.Rules.{rules}
-use Rattle.definition.specs.Text.{first_length, lines}
-use Rattle.lines.proofs.Laws.{count_step, step_at}
+use Prim.Native.Nat.{◌+◌, ◌-◌, ◌≤◌}
+use mathlib.Core.Path.{◌≡◌}
+use lib.ListN.{length, drop}
+use Rattle.definition.specs.Text.{lines}
 use Rattle.lines.proofs.count.Given as goal
 
 abbrev pub invariant-loop-i : goal.invariant-loop-i

@@ -1,8 +1,7 @@
 -- Nothing before the place looked at is the byte, so the first place is the first place from there on.
-use Prim.Native.Nat.{◌+◌, ◌-◌, ◌≤◌}
 use mathlib.Core.Path.{◌≡◌}
 use native.Mathlib.Omega.{arith}
-use lib.ListN.{length, drop}
+use lib.ListN.{length}
 use borrow.Author.Tests.{le-ltb, lt-ltb}
 use Rattle.definition.specs.Text.{first_place}
 use Rattle.lines.specs.Lines.{found}

@@ -1,12 +1,8 @@
 -- Nothing before the place looked at is the byte, so the first place is the first place from there on.
 use Prim.Native.Nat.{◌+◌, ◌-◌, ◌≤◌}
 use mathlib.Core.Path.{◌≡◌}
-use native.Mathlib.Omega.{arith}
 use lib.ListN.{length, drop}
-use borrow.Author.Tests.{le-ltb, lt-ltb}
 use Rattle.definition.specs.Text.{first_place}
-use Rattle.lines.specs.Lines.{found}
-use Rattle.lines.proofs.Laws.{first_here, first_later}
 use Rattle.lines.proofs.find.Given as goal
 
 abbrev pub invariant-loop-i : goal.invariant-loop-i

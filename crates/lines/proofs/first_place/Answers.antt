@@ -1,7 +1,6 @@
 -- The place found, or the length where there is none.
 use mathlib.Core.Path.{sym, ◌∙◌}
 use Rattle.lines.proofs.Laws.{found_at, found_nothing}
-use borrow.Author.Rules.{rules}
 use Rattle.lines.proofs.first_place.Goals as goal
 
 pub returns-in-At : goal.returns-in-At

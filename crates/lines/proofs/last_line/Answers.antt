@@ -1,9 +1,7 @@
 -- Going back, no terminator was met but perhaps at the very end: the last line starts after the first one met.
-use Prim.Native.Nat.{◌+◌, ◌-◌, ◌≤◌}
+use Prim.Native.Nat.{◌+◌, ◌-◌}
 use mathlib.Core.Path.{◌≡◌, sym}
 use native.Mathlib.Omega.{arith}
-use lib.ListN.{length, drop}
-use Rattle.definition.specs.Text.{first_place}
 use Rattle.lines.proofs.Laws.{ended_before, first_later, last_here, last_whole}
 use Rattle.lines.proofs.last_line.Goals as goal
 

@@ -1,12 +1,8 @@
 -- The last lines still wanted are the last of those before the place reached.
 use Prim.Native.Nat.{◌≤◌}
-use mathlib.Core.Path.{◌≡◌, sym, ◌∙◌}
-use native.Mathlib.Omega.{arith}
-use lib.ListN.{length, take, length-take}
-use lib.Seq.{length-take-le, take-length}
-use borrow.Author.Rules.{rules}
+use mathlib.Core.Path.{◌≡◌}
+use lib.ListN.{length, take}
 use Rattle.lines.specs.Lines.{last_start}
-use Rattle.lines.proofs.Laws.{last_back, last_empty, last_le, last_none}
 use Rattle.lines.proofs.preceding.Given as goal
 
 abbrev pub invariant-loop-left : goal.invariant-loop-left

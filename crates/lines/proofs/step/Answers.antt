@@ -2,7 +2,6 @@
 use mathlib.Core.Path.{sym, ◌∙◌}
 use native.Mathlib.Omega.{arith}
 use Rattle.lines.proofs.Laws.{found_at, found_nothing}
-use borrow.Author.Rules.{rules}
 use Rattle.lines.proofs.step.Goals as goal
 
 pub overflow_add-result : goal.overflow_add-result

@@ -1,6 +1,5 @@
 -- The literal fits at the places searched and at no other.
 use mathlib.Core.Path.{sym}
-use borrow.Author.Rules.{rules}
 use native.Mathlib.Omega.{arith}
 use Rattle.literal_places.proofs.Sweeps.{swept_start, swept_none}
 use Rattle.literal.proofs.Blocks.{swept_whole}

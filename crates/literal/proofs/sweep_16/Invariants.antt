@@ -1,8 +1,6 @@
 -- A block with a hit is looked at place by place; the others are passed.
 use Prim.Native.Nat.{◌-◌}
-use native.Mathlib.Omega.{arith}
-use Rattle.literal_places.proofs.Sweeps.{SweptTo, miss, swept_start, swept_found, swept_none}
-use Rattle.literal.proofs.Blocks.{swept_block}
+use Rattle.literal_places.proofs.Sweeps.{SweptTo}
 use Rattle.literal.proofs.sweep_16.Given as goal
 
 abbrev pub invariant-loop-i : goal.invariant-loop-i

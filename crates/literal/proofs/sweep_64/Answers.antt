@@ -1,7 +1,6 @@
 -- A block with a hit is looked at in smaller blocks; the others are passed.
-use Prim.Native.Nat.{◌-◌}
 use native.Mathlib.Omega.{arith}
-use Rattle.literal_places.proofs.Sweeps.{SweptTo, miss, swept_start, swept_found, swept_none}
+use Rattle.literal_places.proofs.Sweeps.{miss, swept_start, swept_found, swept_none}
 use Rattle.literal.proofs.Blocks.{swept_block}
 use Rattle.literal.proofs.sweep_64.Goals as goal
 

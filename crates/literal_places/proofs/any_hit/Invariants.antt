@@ -1,8 +1,6 @@
 -- `hit` is the answer for the places passed.
 use Prim.Native.Nat.{◌≤◌, ◌-◌}
-use mathlib.Core.Path.{◌≡◌, refl}
-use native.Mathlib.Numerals.{add-one}
-use native.Mathlib.Omega.{arith}
+use mathlib.Core.Path.{◌≡◌}
 use Rattle.literal_places.specs.Sweeps.{any_hit}
 use Rattle.literal_places.proofs.any_hit.Given as goal
 

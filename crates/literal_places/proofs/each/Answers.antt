@@ -1,8 +1,7 @@
 -- A place that the two bytes do not rule out is compared; the others are passed.
-use Prim.Native.Nat.{◌-◌}
 use mathlib.Core.Path.{sym, ◌∙◌}
 use native.Mathlib.Omega.{arith}
-use Rattle.literal_places.proofs.Sweeps.{SweptTo, miss, no_start, swept_start, swept_one, swept_found, swept_none}
+use Rattle.literal_places.proofs.Sweeps.{miss, no_start, swept_start, swept_one, swept_found, swept_none}
 use Rattle.literal_places.proofs.Stands.{stands_at}
 use Rattle.literal_places.proofs.each.Goals as goal
 

@@ -1,10 +1,9 @@
 -- What is left to compare decides as the whole does.
-use Prim.Native.Nat.{◌+◌, ◌≤◌, ◌-◌}
+use Prim.Native.Nat.{◌+◌}
 use mathlib.Core.Path.{◌≡◌, sym, ◌∙◌}
 use native.Mathlib.Omega.{arith}
 use borrow.Author.Tests.{eq-eqb, ne_eqb}
-use lib.ListN.{length, drop}
-use Rattle.literal_places.specs.Literal.{starts_with}
+use lib.ListN.{length}
 use Rattle.literal_places.proofs.Stands.{starts_step, starts_end}
 use Rattle.literal_places.proofs.starts_at.Goals as goal
 

@@ -1,11 +1,8 @@
 -- What is left to compare decides as the whole does.
 use Prim.Native.Nat.{◌+◌, ◌≤◌, ◌-◌}
-use mathlib.Core.Path.{◌≡◌, sym, ◌∙◌}
-use native.Mathlib.Omega.{arith}
-use borrow.Author.Tests.{eq-eqb, ne_eqb}
+use mathlib.Core.Path.{◌≡◌}
 use lib.ListN.{length, drop}
 use Rattle.literal_places.specs.Literal.{starts_with}
-use Rattle.literal_places.proofs.Stands.{starts_step, starts_end}
 use Rattle.literal_places.proofs.starts_at.Given as goal
 
 abbrev pub invariant-loop-k : goal.invariant-loop-k

@@ -8,18 +8,18 @@ pub slice_bounds-count-count : goal.slice_bounds-count-count
 unfolding before_of
 slice_bounds-count-count c =
     let start : c.preceding-from.result ≡ (before_of c.args.walk c.args.since.now).from =
-        c.preceding-from.ensures in
+    c.preceding-from.ensures in
     let inside : c.preceding-from.result ≤ length c.args.since.now =
-        omega (arith, start, (from_le c.args.walk c.args.since.now).0) in
+    omega (arith, start, (from_le c.args.walk c.args.since.now).0) in
     inside
 
 pub slice_bounds-count-start : goal.slice_bounds-count-start
 unfolding before_of
 slice_bounds-count-start c =
     let start : c.preceding-from.result ≡ (before_of c.args.walk c.args.since.now).from =
-        c.preceding-from.ensures in
+    c.preceding-from.ensures in
     let inside : c.preceding-from.result ≤ length c.args.since.now =
-        omega (arith, start, (from_le c.args.walk c.args.since.now).0) in
+    omega (arith, start, (from_le c.args.walk c.args.since.now).0) in
     let h = inside in
     search rules
 
@@ -27,6 +27,6 @@ pub returns : goal.returns
 unfolding before_of
 returns c =
     let start : c.preceding-from.result ≡ (before_of c.args.walk c.args.since.now).from =
-        c.preceding-from.ensures in
+    c.preceding-from.ensures in
     let count = rw start at c.count.ensures ∙ ap length (before_lines c.args.walk c.args.since.now) ∙ lines_size c.args.walk c.args.since.now in
     rw (start, count)

@@ -1,5 +1,5 @@
 -- One break, or none.
-use Rattle.std.proofs.Common.{sym, rules}
+use Rattle.std.proofs.Common.{sym}
 use Rattle.match_rows.specs.MatchTable.{gap_before}
 use Rattle.match_rows.proofs.gap_before.Goals as goal
 

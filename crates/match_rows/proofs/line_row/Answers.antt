@@ -1,5 +1,5 @@
 -- The line's place, length and number.
-use Rattle.std.proofs.Common.{refl, rules}
+use Rattle.std.proofs.Common.{refl}
 use Rattle.match_rows.specs.MatchTable.{line_row}
 use Rattle.match_rows.proofs.line_row.Goals as goal
 

@@ -1,5 +1,5 @@
 -- A break at the front, or nothing.
-use Rattle.std.proofs.Common.{arith, rules, le-ltb, lt-ltb}
+use Rattle.std.proofs.Common.{arith, le-ltb, lt-ltb}
 use Rattle.match_rows.specs.MatchTable.{break_table}
 use Rattle.match_rows.proofs.put_break.Goals as goal
 

@@ -7,20 +7,20 @@ use Rattle.match_rows.proofs.put_match.Goals as goal
 pub slice_bounds-part-count : goal.slice_bounds-part-count
 slice_bounds-part-count c =
     let from-inside : c.args.before.from ≤ length c.args.since.now =
-        placing_from c.args.walk c.args.since.now c.args.length c.args.before c.args.gap c.args.table.now c.requires in
+    placing_from c.args.walk c.args.since.now c.args.length c.args.before c.args.gap c.args.table.now c.requires in
     from-inside
 
 pub slice_bounds-part-start : goal.slice_bounds-part-start
 slice_bounds-part-start c =
     let from-inside : c.args.before.from ≤ length c.args.since.now =
-        placing_from c.args.walk c.args.since.now c.args.length c.args.before c.args.gap c.args.table.now c.requires in
+    placing_from c.args.walk c.args.since.now c.args.length c.args.before c.args.gap c.args.table.now c.requires in
     let h = from-inside in
     search rules
 
 pub overflow_sub-offset : goal.overflow_sub-offset
 overflow_sub-offset c =
     let from-inside : c.args.before.from ≤ length c.args.since.now =
-        placing_from c.args.walk c.args.since.now c.args.length c.args.before c.args.gap c.args.table.now c.requires in
+    placing_from c.args.walk c.args.since.now c.args.length c.args.before c.args.gap c.args.table.now c.requires in
     omega (arith, from-inside)
 
 pub put_before-requires : goal.put_before-requires

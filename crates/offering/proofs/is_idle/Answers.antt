@@ -1,6 +1,5 @@
 -- The tests are the definition's, one by one.
 use Rattle.offering.specs.Plan.{idle_at}
-use Rattle.std.proofs.Common.{rules}
 use Rattle.offering.proofs.is_idle.Goals as goal
 
 pub returns : goal.returns

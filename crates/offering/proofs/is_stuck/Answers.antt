@@ -1,5 +1,5 @@
 -- The window is looked at only where there is no room.
-use Rattle.std.proofs.Common.{not, sym, ◌∙◌, arith, rules, eq-eqb, ne_eqb}
+use Rattle.std.proofs.Common.{not, sym, ◌∙◌, arith, eq-eqb, ne_eqb}
 use Rattle.driver_core.proofs.Laws.{waits_line, waits_none}
 use Rattle.session.specs.Held.{is_open, unanswered, waits}
 use Rattle.offering.proofs.Laws.{and-false}

@@ -1,7 +1,7 @@
 -- Rolled, taken in, and the session with the places moved along.
 use Rattle.session.specs.declared.Session.{Session}
 use Rattle.offering.specs.Plan.{Storing}
-use Rattle.std.proofs.Common.{ℕ, List, ◌+◌, ◌-◌, ◌≤◌, length, sym, ap, ◌∙◌, arith, length-take-le, rules}
+use Rattle.std.proofs.Common.{ℕ, List, ◌+◌, ◌-◌, ◌≤◌, length, sym, ap, ◌∙◌, arith, length-take-le}
 use Rattle.definition.specs.Bounds.{max_input, max_window}
 use Rattle.line_buffer.proofs.Laws.{length_rolled}
 use Rattle.session.specs.Calls.{stored}
@@ -87,4 +87,4 @@ overflow_add-places c =
 
 pub returns : goal.returns
 unfolding stored
-returns c = record { value = rw (c.input_after-input.ensures, c.first_replaced-replaced.ensures, c.taken_bytes-taken.ensures, c.requires.sounded.from_is); window_after = c.take_in.ensures ∙ rw c.roll.ensures (stored_bytes c.args.s c.args.window.now c.args.piece.now c.args.from c.args.n c.requires); }
+returns c = record { value = rw (c.input_after-input.ensures, c.first_replaced-replaced.ensures, c.taken_bytes-taken.ensures, c.requires.sounded.from_is); window_after = c.take_in.ensures ∙ rw c.roll.ensures (stored_bytes c.args.s c.args.window.now c.args.piece.now c.args.from c.args.n c.requires) }

@@ -1,5 +1,4 @@
 -- As one opened with nothing, in a window of no bytes.
-use borrow.Author.Rules.{rules}
 use Rattle.opening.proofs.closed_session.Goals as goal
 
 pub returns : goal.returns

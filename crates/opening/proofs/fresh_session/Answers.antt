@@ -1,5 +1,4 @@
 -- A walk and places at the start.
-use borrow.Author.Rules.{rules}
 use Rattle.opening.proofs.fresh_session.Goals as goal
 
 pub returns : goal.returns

@@ -1,8 +1,6 @@
 -- 1, then 2, then served.
 use mathlib.Core.Path.{sym, ◌∙◌}
-use borrow.Author.Tests.{not-false, not-true}
 use Rattle.opening.proofs.Laws.{opened_0, opened_1, opened_2}
-use borrow.Author.Rules.{rules}
 use Rattle.opening.proofs.open.Goals as goal
 
 pub returns-then-not-are_allowed : goal.returns-then-not-are_allowed

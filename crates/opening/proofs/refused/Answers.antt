@@ -1,5 +1,4 @@
 -- The number, and the closed session.
-use borrow.Author.Rules.{rules}
 use Rattle.opening.proofs.refused.Goals as goal
 
 pub returns : goal.returns

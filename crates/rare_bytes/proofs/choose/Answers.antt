@@ -1,5 +1,4 @@
 -- The second choice leaves out the first.
-use borrow.Author.Rules.{rules}
 use Rattle.rare_bytes.proofs.choose.Goals as goal
 
 pub returns : goal.returns

@@ -1,10 +1,8 @@
 -- What is chosen from here on is what is chosen from the start.
-use Prim.Native.Nat.{◌-◌, ◌≤◌}
 use mathlib.Core.Path.{◌≡◌, refl, sym, ◌∙◌}
 use native.Mathlib.Omega.{arith}
-use borrow.Author.Rules.{rules}
-use lib.ListN.{length, drop}
-use Rattle.rare_bytes.specs.Choice.{rarest_of, rarest_but}
+use lib.ListN.{length}
+use Rattle.rare_bytes.specs.Choice.{rarest_but}
 use Rattle.rare_bytes.proofs.Rarity.{rarest_step, rarest_end}
 use Rattle.rare_bytes.proofs.rarest_but.Goals as goal
 

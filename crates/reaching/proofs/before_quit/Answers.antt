@@ -1,5 +1,4 @@
 -- By the binary setting: all of the piece, or what comes before the Quit byte.
-use borrow.Author.Rules.{rules}
 use Rattle.reaching.proofs.before_quit.Goals as goal
 
 pub returns-in-Ignore : goal.returns-in-Ignore

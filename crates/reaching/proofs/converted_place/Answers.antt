@@ -5,7 +5,6 @@ use lib.ListN.{length}
 use borrow.Author.Tests.{eq-eqb, ne_eqb, le-ltb, lt-ltb}
 use Rattle.definition.specs.Text.{first_place}
 use Rattle.lines.proofs.Laws.{found_at, found_nothing}
-use borrow.Author.Rules.{rules}
 use Rattle.reaching.proofs.converted_place.Goals as goal
 
 pub returns-then-byte-terminator : goal.returns-then-byte-terminator

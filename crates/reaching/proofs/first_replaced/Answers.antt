@@ -1,5 +1,4 @@
 -- The first stays the first.
-use borrow.Author.Rules.{rules}
 use Rattle.reaching.proofs.first_replaced.Goals as goal
 
 pub returns-in-At : goal.returns-in-At

@@ -3,7 +3,6 @@ use mathlib.Core.Path.{sym}
 use native.Mathlib.Omega.{arith}
 use lib.Seq.{length-take-le}
 use Rattle.reaching.proofs.Laws.{reach_is}
-use borrow.Author.Rules.{rules}
 use Rattle.reaching.proofs.reaches.Goals as goal
 
 pub slice_bounds-before_quit-end : goal.slice_bounds-before_quit-end

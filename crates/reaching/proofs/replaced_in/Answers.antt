@@ -1,5 +1,4 @@
 -- Only Convert replaces bytes.
-use borrow.Author.Rules.{rules}
 use Rattle.reaching.proofs.replaced_in.Goals as goal
 
 pub returns-in-Convert : goal.returns-in-Convert

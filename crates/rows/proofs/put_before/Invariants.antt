@@ -1,12 +1,7 @@
 -- The rows still to come, put into the table as it stands, are the rows wanted.
-use Prim.Native.Nat.{◌+◌, ◌-◌, ◌*◌, ◌≤◌, ◌<◌}
-use mathlib.Core.Path.{◌≡◌}
-use native.Mathlib.Omega.{arith}
-use lib.ListN.{length, drop}
-use borrow.Author.Rules.{rules}
-use Rattle.definition.specs.Text.{first_length, lines}
-use Rattle.lines.proofs.Laws.{step_at}
-use Rattle.rows.proofs.Laws.{Left, left_begun, left_done, row_fits, turn}
+use Prim.Native.Nat.{◌-◌}
+use lib.ListN.{length}
+use Rattle.rows.proofs.Laws.{Left}
 use Rattle.rows.proofs.put_before.Given as goal
 
 abbrev pub invariant-loop-i : goal.invariant-loop-i

@@ -7,7 +7,6 @@ use lib.ListN.{take, drop, length-set}
 use lib.Seq.{sets-eq}
 use Rattle.definition.specs.Rows.{flat}
 use Rattle.definition.specs.Text.{put_at}
-use borrow.Author.Rules.{rules}
 use Rattle.rows.proofs.put_row.Goals as goal
 
 pub bounds-table-at-2 : goal.bounds-table-at-2

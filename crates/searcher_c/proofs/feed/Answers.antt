@@ -1,5 +1,5 @@
 -- What was taken is no more than was at hand; telling the end takes nothing.
-use Rattle.std.proofs.Common.{length, rules}
+use Rattle.std.proofs.Common.{length}
 use Rattle.machine.proofs.Feeds.{end_taken, fed_taken}
 use Rattle.searcher_c.proofs.feed.Goals as goal
 

@@ -1,5 +1,5 @@
 -- A front of the text is no longer than the text.
-use Rattle.std.proofs.Common.{arith, length-take, rules}
+use Rattle.std.proofs.Common.{arith, length-take}
 use Rattle.searcher_c.proofs.first.Goals as goal
 
 pub slice_bounds-result-end : goal.slice_bounds-result-end

@@ -1,5 +1,5 @@
 -- The lent parts keep their lengths, and the place reached lies in the text; the turns left fall.
-use Rattle.std.proofs.Common.{◌≡◌, ◌*◌, ◌≤◌, length, ◌∙◌, arith, length-drop, rules}
+use Rattle.std.proofs.Common.{◌*◌, ◌≤◌, length, ◌∙◌, arith, length-drop}
 use Rattle.searcher.specs.Door.{door_answered}
 use Rattle.searcher.proofs.Laws.{rows_le}
 use Rattle.searcher_c.proofs.search_text.Goals as goal

@@ -1,7 +1,5 @@
 -- The lent parts keep their lengths, and the place reached lies in the text; the turns left fall.
-use Rattle.std.proofs.Common.{◌≡◌, ◌*◌, ◌≤◌, length, ◌∙◌, arith, length-drop, rules}
-use Rattle.searcher.specs.Door.{door_answered}
-use Rattle.searcher.proofs.Laws.{rows_le}
+use Rattle.std.proofs.Common.{◌≡◌, ◌≤◌, length}
 use Rattle.searcher_c.proofs.search_text.Given as goal
 
 abbrev pub invariant-loop-turns : goal.invariant-loop-turns

@@ -1,5 +1,5 @@
 -- Every place read lies before the last row's end.
-use Rattle.std.proofs.Common.{◌≡◌, ◌-◌, ◌*◌, rules}
+use Rattle.std.proofs.Common.{◌≡◌, ◌-◌, ◌*◌}
 use Rattle.searcher_c.proofs.sum_up.Given as goal
 
 abbrev pub invariant-loop-i : goal.invariant-loop-i

@@ -1,6 +1,5 @@
 -- Each stage asks no more than is ready.
 use Rattle.heading.proofs.Heads.{head_ready}
-use borrow.Author.Rules.{rules}
 use Rattle.serving.proofs.go_on.Goals as goal
 
 pub first-requires : goal.first-requires

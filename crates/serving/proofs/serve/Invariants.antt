@@ -1,10 +1,6 @@
 -- The invariant: between a write and the next step nothing is pending, a read that is wanted has room, and the buffers keep their lengths.
-use mathlib.Core.Path.{◌≡◌, ◌∙◌}
-use native.Mathlib.Omega.{arith}
-use lib.ListN.{length, take, length-take}
-use borrow.Author.Rules.{rules}
 use Rattle.search_machine.specs.Standing.{Rests}
-use Rattle.serving.proofs.Running.{Sizes, lent_still, rests_start, same_sizes}
+use Rattle.serving.proofs.Running.{Sizes}
 use Rattle.serving.proofs.serve.Given as goal
 
 abbrev pub invariant-loop-turns : goal.invariant-loop-turns

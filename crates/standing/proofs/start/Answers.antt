@@ -1,6 +1,5 @@
 -- A closed searcher, and nothing pending.
-use borrow.Author.Rules.{rules}
 use Rattle.standing.proofs.start.Goals as goal
 
 pub returns : goal.returns
-returns c = record { value = rw (c.nothing_pending.ensures, c.closed.ensures); by_index = λ window literal input. rw c.closed.ensures; }
+returns c = record { value = rw (c.nothing_pending.ensures, c.closed.ensures); by_index = λ window literal input. rw c.closed.ensures }

@@ -1,7 +1,6 @@
 -- Field by field, and the input as it was rolled; said here, so that a false field is refused without a search.
 use mathlib.Core.Path.{refl}
-use borrow.Author.Rules.{rules}
 use Rattle.standing.proofs.wanting.Goals as goal
 
 pub returns : goal.returns
-returns c = record { value = refl; input_after = c.roll.ensures; }
+returns c = record { value = refl; input_after = c.roll.ensures }

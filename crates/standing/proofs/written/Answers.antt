@@ -1,5 +1,4 @@
 -- Only what is pending changes.
-use borrow.Author.Rules.{rules}
 use Rattle.standing.proofs.written.Goals as goal
 
 pub returns : goal.returns

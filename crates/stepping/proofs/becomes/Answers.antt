@@ -1,5 +1,5 @@
 -- Selected, else owed, else passed through, else nothing.
-use Rattle.std.proofs.Common.{sym, ◌∙◌, arith, rules, le-ltb, lt-ltb}
+use Rattle.std.proofs.Common.{sym, ◌∙◌, arith, le-ltb, lt-ltb}
 use Rattle.definition.specs.Definition.{fate}
 use Rattle.stepping.proofs.becomes.Goals as goal
 

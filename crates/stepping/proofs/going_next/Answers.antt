@@ -1,5 +1,5 @@
 -- The limit first, then the unselected line.
-use Rattle.std.proofs.Common.{sym, rules}
+use Rattle.std.proofs.Common.{sym}
 use Rattle.definition.specs.Definition.{going_next}
 use Rattle.stepping.proofs.going_next.Goals as goal
 

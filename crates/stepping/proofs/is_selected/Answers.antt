@@ -1,7 +1,6 @@
 -- Below the limit, and the answer differs from invert.
 use Rattle.definition.specs.Definition.{selected}
 use Rattle.stepping.proofs.Laws.{differs}
-use Rattle.std.proofs.Common.{rules}
 use Rattle.stepping.proofs.is_selected.Goals as goal
 
 pub returns : goal.returns

@@ -1,5 +1,4 @@
 -- By what becomes of the line.
-use Rattle.std.proofs.Common.{rules}
 use Rattle.stepping.proofs.left_next.Goals as goal
 
 pub returns-in-After : goal.returns-in-After

@@ -1,5 +1,4 @@
 -- By the limit: none, or a number.
-use Rattle.std.proofs.Common.{rules}
 use Rattle.stepping.proofs.limit_reached.Goals as goal
 
 pub returns-in-Most : goal.returns-in-Most

@@ -1,5 +1,4 @@
 -- One match more, where the line is one.
-use Rattle.std.proofs.Common.{rules}
 use Rattle.stepping.proofs.matches_next.Goals as goal
 
 pub returns-in-Match : goal.returns-in-Match

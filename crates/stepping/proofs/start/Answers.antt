@@ -1,5 +1,4 @@
 -- All at the start; a limit of 0 stops at once.
-use Rattle.std.proofs.Common.{rules}
 use Rattle.stepping.proofs.start.Goals as goal
 
 pub returns : goal.returns

@@ -1,6 +1,5 @@
 -- Each field by what becomes of the line.
 use Rattle.driver_core.specs.Step.{walk_step}
-use Rattle.std.proofs.Common.{rules}
 use Rattle.stepping.proofs.step.Goals as goal
 
 pub returns : goal.returns

@@ -1,11 +1,11 @@
 -- The invariant: the turns made so far lead from the state at entry to the state as it stands, and what they print is pending.
-use Rattle.std.proofs.Common.{◌≡◌, ◌+◌, ◌-◌, ◌*◌, ◌<◌, ◌≤◌, ltb, leb, length, take, ap, ◌∙◌, arith, length-take, rules, ltb-true, leb-true}
+use Rattle.std.proofs.Common.{◌≡◌, ◌+◌, ◌-◌, ◌*◌, ◌<◌, ◌≤◌, ltb, leb, length, take, ap, ◌∙◌, arith, length-take, ltb-true, leb-true}
 use mathlib.Core.Bool.{and-eq-true_iff}
 use Rattle.definition.specs.Rows.{row_size}
-use Rattle.search_machine.specs.Standing.{seen, turn_most}
+use Rattle.search_machine.specs.Standing.{turn_most}
 use Rattle.printing.specs.Texts.{row_most}
 use Rattle.turning.proofs.Answers.{Asked, asked_rows}
-use Rattle.turning.proofs.Looping.{Loop, loop_ends, loop_goes, loop_gives, loop_refuses, loop_start, loop_stops, loop_taken, loop_wants}
+use Rattle.turning.proofs.Looping.{loop_ends, loop_goes, loop_gives, loop_refuses, loop_start, loop_stops, loop_taken, loop_wants}
 use Rattle.turning.proofs.turns.Goals as goal
 
 pub loop-turns-init : goal.loop-turns-init
@@ -14,7 +14,7 @@ loop-turns-init c = loop_start c.args.s c.args.window.now c.args.table.now c.arg
 pub overflow_sub-turns : goal.overflow_sub-turns
 overflow_sub-turns c =
     let may : (0 < c.loop-turns.turns) × (turn_most ≤ length c.loop-turns.out - c.loop-turns.pending.length) =
-        let both = (and-eq-true_iff (ltb 0 c.loop-turns.turns) (leb turn_most (length c.loop-turns.out - c.loop-turns.pending.length))).0 c.loop-turns-test.true in
+    let both = (and-eq-true_iff (ltb 0 c.loop-turns.turns) (leb turn_most (length c.loop-turns.out - c.loop-turns.pending.length))).0 c.loop-turns-test.true in
     (ltb-true 0 c.loop-turns.turns both.0, leb-true turn_most (length c.loop-turns.out - c.loop-turns.pending.length) both.1) in
     omega (arith, may)
 
@@ -26,7 +26,7 @@ slice_bounds-contains_by-end c =
 pub rows-pending-requires : goal.rows-pending-requires
 rows-pending-requires c =
     let asked : Asked c.args.s.stage (take c.args.s.size c.args.literal.now) c.loop-turns.searcher.session c.loop-turns.window c.loop-turns.table c.line.result.now c.contains_by-hit.result c.answer-answered.result c.answer-answered.new.table =
-        record {
+    record {
       in_text = c.requires.0;
       size = c.loop-turns.invariant.table_size ∙ c.requires.1.lent.table_is;
       shows = c.line.ensures.0;
@@ -35,7 +35,7 @@ rows-pending-requires c =
       writes = c.answer-answered.ensures.1;
     } in
     let may : (0 < c.loop-turns.turns) × (turn_most ≤ length c.loop-turns.out - c.loop-turns.pending.length) =
-        let both = (and-eq-true_iff (ltb 0 c.loop-turns.turns) (leb turn_most (length c.loop-turns.out - c.loop-turns.pending.length))).0 c.loop-turns-test.true in
+    let both = (and-eq-true_iff (ltb 0 c.loop-turns.turns) (leb turn_most (length c.loop-turns.out - c.loop-turns.pending.length))).0 c.loop-turns-test.true in
     (ltb-true 0 c.loop-turns.turns both.0, leb-true turn_most (length c.loop-turns.out - c.loop-turns.pending.length) both.1) in
     let rows = asked_rows asked in
     let in_table : row_size * c.answer-answered.result.rows ≤ length c.answer-answered.new.table = omega (arith, rows, c.answer-answered.auto.table) in
@@ -45,14 +45,14 @@ rows-pending-requires c =
 pub loop-turns-smaller-then-answered-eq0 : goal.loop-turns-smaller-then-answered-eq0
 loop-turns-smaller-then-answered-eq0 c =
     let may : (0 < c.loop-turns.turns) × (turn_most ≤ length c.loop-turns.out - c.loop-turns.pending.length) =
-        let both = (and-eq-true_iff (ltb 0 c.loop-turns.turns) (leb turn_most (length c.loop-turns.out - c.loop-turns.pending.length))).0 c.loop-turns-test.true in
+    let both = (and-eq-true_iff (ltb 0 c.loop-turns.turns) (leb turn_most (length c.loop-turns.out - c.loop-turns.pending.length))).0 c.loop-turns-test.true in
     (ltb-true 0 c.loop-turns.turns both.0, leb-true turn_most (length c.loop-turns.out - c.loop-turns.pending.length) both.1) in
     omega (arith, may)
 
 pub loop-turns-preserved-then-answered-eq0 : goal.loop-turns-preserved-then-answered-eq0
 loop-turns-preserved-then-answered-eq0 c =
     let asked : Asked c.args.s.stage (take c.args.s.size c.args.literal.now) c.loop-turns.searcher.session c.loop-turns.window c.loop-turns.table c.line.result.now c.contains_by-hit.result c.answer-answered.result c.answer-answered.new.table =
-        record {
+    record {
       in_text = c.requires.0;
       size = c.loop-turns.invariant.table_size ∙ c.requires.1.lent.table_is;
       shows = c.line.ensures.0;
@@ -61,7 +61,7 @@ loop-turns-preserved-then-answered-eq0 c =
       writes = c.answer-answered.ensures.1;
     } in
     let may : (0 < c.loop-turns.turns) × (turn_most ≤ length c.loop-turns.out - c.loop-turns.pending.length) =
-        let both = (and-eq-true_iff (ltb 0 c.loop-turns.turns) (leb turn_most (length c.loop-turns.out - c.loop-turns.pending.length))).0 c.loop-turns-test.true in
+    let both = (and-eq-true_iff (ltb 0 c.loop-turns.turns) (leb turn_most (length c.loop-turns.out - c.loop-turns.pending.length))).0 c.loop-turns-test.true in
     (ltb-true 0 c.loop-turns.turns both.0, leb-true turn_most (length c.loop-turns.out - c.loop-turns.pending.length) both.1) in
     loop_gives c.loop-turns.invariant asked may.0 c.if-answered-eq0.true c.answer-answered.auto.table _ _ c.rows-pending.ensures
 
@@ -71,7 +71,7 @@ slice_bounds-feed-end c = omega (arith, c.requires.1.placed, ap length c.loop-tu
 pub overflow_add-at : goal.overflow_add-at
 overflow_add-at c =
     let asked : Asked c.args.s.stage (take c.args.s.size c.args.literal.now) c.loop-turns.searcher.session c.loop-turns.window c.loop-turns.table c.line.result.now c.contains_by-hit.result c.answer-answered.result c.answer-answered.new.table =
-        record {
+    record {
       in_text = c.requires.0;
       size = c.loop-turns.invariant.table_size ∙ c.requires.1.lent.table_is;
       shows = c.line.ensures.0;
@@ -80,21 +80,21 @@ overflow_add-at c =
       writes = c.answer-answered.ensures.1;
     } in
     let may : (0 < c.loop-turns.turns) × (turn_most ≤ length c.loop-turns.out - c.loop-turns.pending.length) =
-        let both = (and-eq-true_iff (ltb 0 c.loop-turns.turns) (leb turn_most (length c.loop-turns.out - c.loop-turns.pending.length))).0 c.loop-turns-test.true in
+    let both = (and-eq-true_iff (ltb 0 c.loop-turns.turns) (leb turn_most (length c.loop-turns.out - c.loop-turns.pending.length))).0 c.loop-turns-test.true in
     (ltb-true 0 c.loop-turns.turns both.0, leb-true turn_most (length c.loop-turns.out - c.loop-turns.pending.length) both.1) in
     omega (arith, c.requires.1.placed, c.well_formed, loop_taken c.loop-turns.invariant asked may.0 c.if-answered-eq0.false c.requires.1.placed.to_in (c.feed-fed.ensures.value, c.feed-fed.ensures.window_after))
 
 pub loop-turns-smaller : goal.loop-turns-smaller
 loop-turns-smaller c =
     let may : (0 < c.loop-turns.turns) × (turn_most ≤ length c.loop-turns.out - c.loop-turns.pending.length) =
-        let both = (and-eq-true_iff (ltb 0 c.loop-turns.turns) (leb turn_most (length c.loop-turns.out - c.loop-turns.pending.length))).0 c.loop-turns-test.true in
+    let both = (and-eq-true_iff (ltb 0 c.loop-turns.turns) (leb turn_most (length c.loop-turns.out - c.loop-turns.pending.length))).0 c.loop-turns-test.true in
     (ltb-true 0 c.loop-turns.turns both.0, leb-true turn_most (length c.loop-turns.out - c.loop-turns.pending.length) both.1) in
     omega (arith, may)
 
 pub loop-turns-preserved : goal.loop-turns-preserved
 loop-turns-preserved c =
     let asked : Asked c.args.s.stage (take c.args.s.size c.args.literal.now) c.loop-turns.searcher.session c.loop-turns.window c.loop-turns.table c.line.result.now c.contains_by-hit.result c.answer-answered.result c.answer-answered.new.table =
-        record {
+    record {
       in_text = c.requires.0;
       size = c.loop-turns.invariant.table_size ∙ c.requires.1.lent.table_is;
       shows = c.line.ensures.0;
@@ -103,14 +103,14 @@ loop-turns-preserved c =
       writes = c.answer-answered.ensures.1;
     } in
     let may : (0 < c.loop-turns.turns) × (turn_most ≤ length c.loop-turns.out - c.loop-turns.pending.length) =
-        let both = (and-eq-true_iff (ltb 0 c.loop-turns.turns) (leb turn_most (length c.loop-turns.out - c.loop-turns.pending.length))).0 c.loop-turns-test.true in
+    let both = (and-eq-true_iff (ltb 0 c.loop-turns.turns) (leb turn_most (length c.loop-turns.out - c.loop-turns.pending.length))).0 c.loop-turns-test.true in
     (ltb-true 0 c.loop-turns.turns both.0, leb-true turn_most (length c.loop-turns.out - c.loop-turns.pending.length) both.1) in
     loop_goes c.loop-turns.invariant asked may.0 c.if-answered-eq0.false c.requires.1.placed.to_in (c.feed-fed.ensures.value, c.feed-fed.ensures.window_after) c.in-Goes.is c.feed-fed.auto.window c.answer-answered.auto.table
 
 pub wanting-requires : goal.wanting-requires
 wanting-requires c =
     let asked : Asked c.args.s.stage (take c.args.s.size c.args.literal.now) c.loop-turns.searcher.session c.loop-turns.window c.loop-turns.table c.line.result.now c.contains_by-hit.result c.answer-answered.result c.answer-answered.new.table =
-        record {
+    record {
       in_text = c.requires.0;
       size = c.loop-turns.invariant.table_size ∙ c.requires.1.lent.table_is;
       shows = c.line.ensures.0;
@@ -119,7 +119,7 @@ wanting-requires c =
       writes = c.answer-answered.ensures.1;
     } in
     let may : (0 < c.loop-turns.turns) × (turn_most ≤ length c.loop-turns.out - c.loop-turns.pending.length) =
-        let both = (and-eq-true_iff (ltb 0 c.loop-turns.turns) (leb turn_most (length c.loop-turns.out - c.loop-turns.pending.length))).0 c.loop-turns-test.true in
+    let both = (and-eq-true_iff (ltb 0 c.loop-turns.turns) (leb turn_most (length c.loop-turns.out - c.loop-turns.pending.length))).0 c.loop-turns-test.true in
     (ltb-true 0 c.loop-turns.turns both.0, leb-true turn_most (length c.loop-turns.out - c.loop-turns.pending.length) both.1) in
     rw c.going-left.ensures (loop_taken c.loop-turns.invariant asked may.0 c.if-answered-eq0.false c.requires.1.placed.to_in (c.feed-fed.ensures.value, c.feed-fed.ensures.window_after), omega (arith, c.requires.1.placed, ap length c.loop-turns.invariant.input_is))
 
@@ -138,7 +138,7 @@ shape_of-out-in-Wants c = c.loop-turns.invariant.out_size
 pub returns-in-Wants : goal.returns-in-Wants
 returns-in-Wants c =
     let asked : Asked c.args.s.stage (take c.args.s.size c.args.literal.now) c.loop-turns.searcher.session c.loop-turns.window c.loop-turns.table c.line.result.now c.contains_by-hit.result c.answer-answered.result c.answer-answered.new.table =
-        record {
+    record {
       in_text = c.requires.0;
       size = c.loop-turns.invariant.table_size ∙ c.requires.1.lent.table_is;
       shows = c.line.ensures.0;
@@ -147,7 +147,7 @@ returns-in-Wants c =
       writes = c.answer-answered.ensures.1;
     } in
     let may : (0 < c.loop-turns.turns) × (turn_most ≤ length c.loop-turns.out - c.loop-turns.pending.length) =
-        let both = (and-eq-true_iff (ltb 0 c.loop-turns.turns) (leb turn_most (length c.loop-turns.out - c.loop-turns.pending.length))).0 c.loop-turns-test.true in
+    let both = (and-eq-true_iff (ltb 0 c.loop-turns.turns) (leb turn_most (length c.loop-turns.out - c.loop-turns.pending.length))).0 c.loop-turns-test.true in
     (ltb-true 0 c.loop-turns.turns both.0, leb-true turn_most (length c.loop-turns.out - c.loop-turns.pending.length) both.1) in
     rw (c.wanting.ensures.value, c.going-left.ensures)
     (loop_wants c.loop-turns.invariant asked may.0 c.if-answered-eq0.false c.requires.1.placed.to_in (c.feed-fed.ensures.value, c.feed-fed.ensures.window_after) c.requires.1.placed.literal_in (omega (arith, c.requires.1.lent.input_room)) c.in-Wants.is _ (rw c.going-left.ensures at c.wanting.ensures.input_after) c.wanting.auto.input)
@@ -155,7 +155,7 @@ returns-in-Wants c =
 pub refusal-requires : goal.refusal-requires
 refusal-requires c =
     let may : (0 < c.loop-turns.turns) × (turn_most ≤ length c.loop-turns.out - c.loop-turns.pending.length) =
-        let both = (and-eq-true_iff (ltb 0 c.loop-turns.turns) (leb turn_most (length c.loop-turns.out - c.loop-turns.pending.length))).0 c.loop-turns-test.true in
+    let both = (and-eq-true_iff (ltb 0 c.loop-turns.turns) (leb turn_most (length c.loop-turns.out - c.loop-turns.pending.length))).0 c.loop-turns-test.true in
     (ltb-true 0 c.loop-turns.turns both.0, leb-true turn_most (length c.loop-turns.out - c.loop-turns.pending.length) both.1) in
     omega (arith, may, c.loop-turns.invariant.within)
 
@@ -174,7 +174,7 @@ shape_of-out-in-Refuses c = c.refusal.auto.out ∙ c.loop-turns.invariant.out_si
 pub returns-in-Refuses : goal.returns-in-Refuses
 returns-in-Refuses c =
     let asked : Asked c.args.s.stage (take c.args.s.size c.args.literal.now) c.loop-turns.searcher.session c.loop-turns.window c.loop-turns.table c.line.result.now c.contains_by-hit.result c.answer-answered.result c.answer-answered.new.table =
-        record {
+    record {
       in_text = c.requires.0;
       size = c.loop-turns.invariant.table_size ∙ c.requires.1.lent.table_is;
       shows = c.line.ensures.0;
@@ -183,7 +183,7 @@ returns-in-Refuses c =
       writes = c.answer-answered.ensures.1;
     } in
     let may : (0 < c.loop-turns.turns) × (turn_most ≤ length c.loop-turns.out - c.loop-turns.pending.length) =
-        let both = (and-eq-true_iff (ltb 0 c.loop-turns.turns) (leb turn_most (length c.loop-turns.out - c.loop-turns.pending.length))).0 c.loop-turns-test.true in
+    let both = (and-eq-true_iff (ltb 0 c.loop-turns.turns) (leb turn_most (length c.loop-turns.out - c.loop-turns.pending.length))).0 c.loop-turns-test.true in
     (ltb-true 0 c.loop-turns.turns both.0, leb-true turn_most (length c.loop-turns.out - c.loop-turns.pending.length) both.1) in
     rw c.over.ensures
     (loop_refuses c.loop-turns.invariant asked may.0 c.if-answered-eq0.false c.requires.1.placed.to_in (c.feed-fed.ensures.value, c.feed-fed.ensures.window_after) c.requires.1.placed.literal_in c.requires.1.placed.from_to _ c.in-Refuses.is _ _ c.refusal.ensures)
@@ -191,7 +191,7 @@ returns-in-Refuses c =
 pub end-requires : goal.end-requires
 end-requires c =
     let may : (0 < c.loop-turns.turns) × (turn_most ≤ length c.loop-turns.out - c.loop-turns.pending.length) =
-        let both = (and-eq-true_iff (ltb 0 c.loop-turns.turns) (leb turn_most (length c.loop-turns.out - c.loop-turns.pending.length))).0 c.loop-turns-test.true in
+    let both = (and-eq-true_iff (ltb 0 c.loop-turns.turns) (leb turn_most (length c.loop-turns.out - c.loop-turns.pending.length))).0 c.loop-turns-test.true in
     (ltb-true 0 c.loop-turns.turns both.0, leb-true turn_most (length c.loop-turns.out - c.loop-turns.pending.length) both.1) in
     omega (arith, may, c.loop-turns.invariant.within)
 
@@ -210,7 +210,7 @@ shape_of-out-in-Ends c = c.end.auto.out ∙ c.loop-turns.invariant.out_size
 pub returns-in-Ends : goal.returns-in-Ends
 returns-in-Ends c =
     let asked : Asked c.args.s.stage (take c.args.s.size c.args.literal.now) c.loop-turns.searcher.session c.loop-turns.window c.loop-turns.table c.line.result.now c.contains_by-hit.result c.answer-answered.result c.answer-answered.new.table =
-        record {
+    record {
       in_text = c.requires.0;
       size = c.loop-turns.invariant.table_size ∙ c.requires.1.lent.table_is;
       shows = c.line.ensures.0;
@@ -219,7 +219,7 @@ returns-in-Ends c =
       writes = c.answer-answered.ensures.1;
     } in
     let may : (0 < c.loop-turns.turns) × (turn_most ≤ length c.loop-turns.out - c.loop-turns.pending.length) =
-        let both = (and-eq-true_iff (ltb 0 c.loop-turns.turns) (leb turn_most (length c.loop-turns.out - c.loop-turns.pending.length))).0 c.loop-turns-test.true in
+    let both = (and-eq-true_iff (ltb 0 c.loop-turns.turns) (leb turn_most (length c.loop-turns.out - c.loop-turns.pending.length))).0 c.loop-turns-test.true in
     (ltb-true 0 c.loop-turns.turns both.0, leb-true turn_most (length c.loop-turns.out - c.loop-turns.pending.length) both.1) in
     rw c.over-in-Ends.ensures
     (loop_ends c.loop-turns.invariant asked may.0 c.if-answered-eq0.false c.requires.1.placed.to_in (c.feed-fed.ensures.value, c.feed-fed.ensures.window_after) c.requires.1.placed.literal_in c.requires.1.placed.from_to _ c.in-Ends.is _ _ c.end.ensures)

@@ -1,6 +1,5 @@
 -- What answering gives, at the door.
 use Rattle.searcher.specs.Door.{door_answered}
-use Rattle.std.proofs.Common.{rules}
 use Rattle.searcher.proofs.Searcher.answer.Goals as goal
 
 pub returns : goal.returns

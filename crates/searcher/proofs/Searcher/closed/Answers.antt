@@ -1,5 +1,4 @@
 -- The closed session, at the door.
-use Rattle.std.proofs.Common.{rules}
 use Rattle.searcher.proofs.Searcher.closed.Goals as goal
 
 pub returns : goal.returns

@@ -1,6 +1,5 @@
 -- What offering gives, at the door.
 use Rattle.searcher.specs.Door.{door_offered}
-use Rattle.std.proofs.Common.{rules}
 use Rattle.searcher.proofs.Searcher.offer.Goals as goal
 
 pub returns : goal.returns

@@ -1,6 +1,5 @@
 -- What opening gives, at the door.
 use Rattle.searcher.specs.Door.{door_opened}
-use Rattle.std.proofs.Common.{rules}
 use Rattle.searcher.proofs.Searcher.open.Goals as goal
 
 pub returns : goal.returns

@@ -1,6 +1,5 @@
 -- What the end told gives, at the door.
 use Rattle.searcher.specs.Door.{door_told}
-use Rattle.std.proofs.Common.{rules}
 use Rattle.searcher.proofs.Searcher.tell_end.Goals as goal
 
 pub returns : goal.returns
