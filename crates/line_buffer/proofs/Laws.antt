@@ -10,7 +10,10 @@ use lib.ListN.{length, take, drop, get_or, set, drop_of_length-le, length-append
 use lib.Seq.{append_snoc, drop-append-add, drop-cons, drop-drop, get_or-append-add, get_or-drop, length-take-le, set_at, take_all, take_at, take-suc}
 use borrow.Rule.Slice.PartMut.{put_mid}
 use Rattle.definition.specs.Text.{part, put_at, replaced}
-use Rattle.line_buffer.specs.Buffer.{rolled}
+use Rattle.definition.specs.declared.Binary.{Binary}
+use Rattle.definition.specs.declared.Binary.TheVariants.{Convert}
+use Rattle.definition.proofs.Uncut.{length_replaced}
+use Rattle.line_buffer.specs.Buffer.{converted, rolled}
 
 -- # Writing from the front
 
@@ -87,3 +90,10 @@ roll_take_in from to bytes w h k =
     in
     rw (take_at held (drop (to - from) w) (to - from) size)
     (ap (λ xs. held ++ (bytes ++ xs)) (rw size at past ∙ drop-drop (length bytes) (to - from) w))
+
+-- a piece whose bytes are replaced, in the free tail
+pub converted_put : (binary : Binary) (b t at : ℕ) (piece w tail : List ℕ) → binary ≡ Convert b
+    → tail ≡ replaced b t piece ++ drop (length piece) (take (length w - at) (drop at w)) → at + length piece ≤ length w
+    → take at w ++ (tail ++ drop (length w - at) (drop at w)) ≡ put_at at (converted binary t piece) w
+converted_put binary b t at piece w tail e f h =
+    rw (e, f) (tail_put at (length piece) (replaced b t piece) w (length_replaced b t piece) h)
