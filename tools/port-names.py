@@ -22,14 +22,14 @@ DECLARED_IN_CORE = {"Walk", "LineAhead", "Given"}
 IS_OPEN = {"machine/proofs/Turns.antt", "promises/proofs/Caller.antt", "promises/proofs/Carry.antt", "promises/proofs/Soon.antt"}
 NAME = r"[^\W\d][\w'₀-₉-]*"
 HEAD = re.compile(r"^(?:abbrev |unfoldable |pub |ruleset )*(" + NAME + r")(?: (?:\(|\{).*)? :(?: |$)")
-FIELD = re.compile(r"^ +(?:pub )?(" + NAME + r") : ")
+FIELD = re.compile(r"^ +(?:pub )?(" + NAME + r") :(?: |$)")
 # a lemma of a section, `module _ (..) where`, or one below a `where`
-INNER = re.compile(r"^ +(?:abbrev |unfoldable |pub )*(" + NAME + r") : ")
+INNER = re.compile(r"^ +(?:abbrev |unfoldable |pub )*(" + NAME + r") :(?: |$)")
 TOKEN = re.compile(NAME)
 
 
 def snake(name):
-    s = re.sub(r"(?<=[a-z0-9₀-₉'])([A-Z])", lambda m: "_" + m.group(1).lower(), name)
+    s = re.sub(r"(?<=[a-z0-9₀-₉'])([A-Z]+)", lambda m: "_" + m.group(1).lower(), name)
     return s.replace("-", "_")
 
 
@@ -69,7 +69,7 @@ def own_names():
             elif inside and FIELD.match(line):
                 found.setdefault(FIELD.match(line).group(1), set()).add(p)
                 fields.add(FIELD.match(line).group(1))
-            elif INNER.match(line) and "-" in INNER.match(line).group(1):
+            elif INNER.match(line) and snake(INNER.match(line).group(1)) != INNER.match(line).group(1):
                 found.setdefault(INNER.match(line).group(1), set()).add(p)
             elif line and not line.startswith(" "):
                 inside = None

@@ -89,22 +89,22 @@ abbrev pub N : List ℕ
 N = 97 ∷ 10 ∷ 98 ∷ 0 ∷ 99 ∷ 10 ∷ []
 
 -- "yes at b and e"
-abbrev pub at_bE : List ℕ
-at_bE = 2 ∷ 5 ∷ []
+abbrev pub at_be : List ℕ
+at_be = 2 ∷ 5 ∷ []
 
 -- P1 to P11. 01 gives P1, P8 whole; of the others' end records and of the rows of P4 and P5, what 01 leaves out is worked out by hand.
 abbrev pub P : List Example
 P =
     -- P1
-    ex (context 0 0) T at_bE (r 1 2 2 2 ∷ r 1 8 2 5 ∷ []) (e 10 5 2 0 0 0)
+    ex (context 0 0) T at_be (r 1 2 2 2 ∷ r 1 8 2 5 ∷ []) (e 10 5 2 0 0 0)
     -- P2; the end by hand
-    ∷ ex (context 1 0) T at_bE (r 2 0 2 1 ∷ r 1 2 2 2 ∷ r 5 0 0 0 ∷ r 2 6 2 4 ∷ r 1 8 2 5 ∷ []) (e 10 5 2 0 0 0)
+    ∷ ex (context 1 0) T at_be (r 2 0 2 1 ∷ r 1 2 2 2 ∷ r 5 0 0 0 ∷ r 2 6 2 4 ∷ r 1 8 2 5 ∷ []) (e 10 5 2 0 0 0)
     -- P3; the end by hand
-    ∷ ex (context 0 1) T at_bE (r 1 2 2 2 ∷ r 3 4 2 3 ∷ r 5 0 0 0 ∷ r 1 8 2 5 ∷ []) (e 10 5 2 0 0 0)
+    ∷ ex (context 0 1) T at_be (r 1 2 2 2 ∷ r 3 4 2 3 ∷ r 5 0 0 0 ∷ r 1 8 2 5 ∷ []) (e 10 5 2 0 0 0)
     -- P4: 01 gives the kinds; offsets, lengths, numbers and the end by hand
-    ∷ ex (context 1 1) T at_bE (r 2 0 2 1 ∷ r 1 2 2 2 ∷ r 3 4 2 3 ∷ r 2 6 2 4 ∷ r 1 8 2 5 ∷ []) (e 10 5 2 0 0 0)
+    ∷ ex (context 1 1) T at_be (r 2 0 2 1 ∷ r 1 2 2 2 ∷ r 3 4 2 3 ∷ r 2 6 2 4 ∷ r 1 8 2 5 ∷ []) (e 10 5 2 0 0 0)
     -- P5: 01 gives the offsets; lengths, numbers and the end by hand
-    ∷ ex (settings 0 0 true false false Unlimited Ignore) T at_bE (r 1 0 2 1 ∷ r 1 4 2 3 ∷ r 1 6 2 4 ∷ []) (e 10 5 3 0 0 0)
+    ∷ ex (settings 0 0 true false false Unlimited Ignore) T at_be (r 1 0 2 1 ∷ r 1 4 2 3 ∷ r 1 6 2 4 ∷ []) (e 10 5 3 0 0 0)
     -- P6; lines and matches of the end by hand
     ∷ ex (settings 0 2 false false false (Most 1) Ignore) T (2 ∷ 3 ∷ []) (r 1 2 2 2 ∷ r 3 4 2 3 ∷ r 3 6 2 4 ∷ []) (e 8 4 1 2 0 0)
     -- P7; lines and matches of the end by hand

@@ -10,20 +10,20 @@ use Rattle.definition.specs.Text.{first_place, handed, lines, replaced, text}
 unfoldable pub final_state : Settings → List ℕ → (ℕ → Bool) → State
 final_state c input answers = state c answers (begun c) (lines c.terminator (text c input))
 
--- The form of State.antt gives the definition's rows (Same.same-rows) ..
+-- The form of State.antt gives the definition's rows (Same.same_rows) ..
 abbrev pub SameRows : Type 0
 SameRows =
     (c : Settings) (input : List ℕ) (answers : ℕ → Bool)
     → rows_of c input answers ≡ rows c answers (begun c) (lines c.terminator (text c input))
 
--- .. and its end record (Same.same-end).
+-- .. and its end record (Same.same_end).
 abbrev pub SameEnd : Type 0
 SameEnd =
     (c : Settings) (input : List ℕ) (answers : ℕ → Bool)
     → let s = final_state c input answers in
     end_of c input answers ≡ end_record c input s.bytes s.lines s.matches s.going
 
--- The same after any lines: the rows, how the run stands, and the kept part (Same.same-lines).
+-- The same after any lines: the rows, how the run stands, and the kept part (Same.same_lines).
 abbrev pub SameLines : Type 0
 SameLines =
     (c : Settings) (answers : ℕ → Bool) (ls : List (List ℕ))
@@ -31,7 +31,7 @@ SameLines =
     × ((gone_lines c answers ls).going ≡ (state c answers (begun c) ls).going)
     × (kept_part c (gone_lines c answers ls) ≡ (trim c (state c answers (begun c) ls)).since)
 
--- The rows of a beginning of the lines are a beginning of the rows (Kept.rows-append).
+-- The rows of a beginning of the lines are a beginning of the rows (Kept.rows_append).
 abbrev pub RowsBegin : Type 0
 RowsBegin =
     (c : Settings) (answers : ℕ → Bool) (s : State) (xs ys : List (List ℕ))
@@ -73,7 +73,7 @@ LinesFirst =
     (t : ℕ) (bytes : List ℕ) → first_place t bytes < length bytes
     → lines t bytes ≡ take (first_place t bytes + 1) bytes ∷ lines t (drop (first_place t bytes + 1) bytes)
 
--- .. otherwise what there is forms the only line (Terminator.lines-rest).
+-- .. otherwise what there is forms the only line (Terminator.lines_rest).
 abbrev pub LinesRest : Type 0
 LinesRest = (t : ℕ) (bytes : List ℕ) → 0 < length bytes → length bytes ≤ first_place t bytes → lines t bytes ≡ bytes ∷ []
 

@@ -22,33 +22,33 @@ use Rattle.giving.specs.Fated.{fated_decision, fated_given, fated_given_by, fate
 -- # By what becomes of the line
 
 module _ (k : Walk) (since : List ℕ) (len : ℕ) (hit : Bool) where
-  abbrev fateHere : Fate
-  fateHere = fate_of k.settings (state_since k since) hit
+  abbrev fate_here : Fate
+  fate_here = fate_of k.settings (state_since k since) hit
 
-  rows_are : rows_since k since len hit ≡ fated_rows fateHere k since len
+  rows_are : rows_since k since len hit ≡ fated_rows fate_here k since len
   unfolding rows_since fated_rows
   rows_are = refl
 
-  decision_is : (table : ℕ) → answering_since k since len table hit ≡ fated_decision fateHere k since len table
+  decision_is : (table : ℕ) → answering_since k since len table hit ≡ fated_decision fate_here k since len table
   unfolding answering_since fated_decision below_one_since rows_since fated_rows
   decision_is table = refl
 
-  given_by_lem : (o : AnswerDecision) → given_by o k since len hit ≡ fated_given_by o fateHere k since len
+  given_by_lem : (o : AnswerDecision) → given_by o k since len hit ≡ fated_given_by o fate_here k since len
   given_by_lem (AnswerRefused n) = refl
   given_by_lem Give = rw rows_are
 
-  table_by : (o : AnswerDecision) (table : List ℕ) → given_table_by o k since len table hit ≡ fated_table_by o fateHere k since len table
+  table_by : (o : AnswerDecision) (table : List ℕ) → given_table_by o k since len table hit ≡ fated_table_by o fate_here k since len table
   table_by (AnswerRefused n) table = refl
   table_by Give table = ap (λ rows. put_rows rows table) rows_are
 
   -- by its fate, once that is known
-  pub given_as : (f : Fate) (table : List ℕ) → fateHere ≡ f
+  pub given_as : (f : Fate) (table : List ℕ) → fate_here ≡ f
       → (fated_given f k since len (length table) ≡ given k since len table hit) × (fated_table f k since len table ≡ given_table k since len table hit)
   unfolding given given_table fated_given fated_table
   given_as f table h = (
-    sym (given_by_lem (answering_since k since len (length table) hit) ∙ ap (λ o. fated_given_by o fateHere k since len) (decision_is (length table))
+    sym (given_by_lem (answering_since k since len (length table) hit) ∙ ap (λ o. fated_given_by o fate_here k since len) (decision_is (length table))
         ∙ ap (λ g. fated_given g k since len (length table)) h),
-    sym (table_by (answering_since k since len (length table) hit) table ∙ ap (λ o. fated_table_by o fateHere k since len table) (decision_is (length table))
+    sym (table_by (answering_since k since len (length table) hit) table ∙ ap (λ o. fated_table_by o fate_here k since len table) (decision_is (length table))
         ∙ ap (λ g. fated_table g k since len table) h),
   )
 

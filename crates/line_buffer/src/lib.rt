@@ -28,7 +28,7 @@ pub fn take_in(window: &mut [u8], end: usize, piece: &[u8], binary: Binary, term
     requires { end + length piece.now ≤ length window.old }
     ensures { window.new ≡ put_at end (converted binary terminator piece.now) window.old }
 {
-    // Copying is apart from the converting loop, since it has nothing to test: it moves 32 bytes a turn.
+    // Copying is apart from the converting loop, since it has nothing to test.
     match binary {
         Binary::Ignore => {
             window[end..end + piece.len()].copy_from_slice(piece);

@@ -75,7 +75,7 @@ refusals_change_nothing s w piece table hit c window =
       record_zeros = λ h. rw (ne_eqb (recording s) 0 h);
       part_empty = part_unshown (sound s (length w)) (waits s w) _;
       opening_closed = λ h. rw (ne_eqb (opening c window) 0 h);
-      closed-6 =
+      closed_6 =
           (rw (closed_unsound (length w)), rw (closed_unsound (length w)), rw (closed_unsound (length w)), refl, refl);
     }
 

@@ -42,7 +42,7 @@ pub record Unchanged (s : Session) (w piece table : List ℕ) (hit : Bool) (c : 
   pub record_zeros : ((recorded s).refusal ≢ 0) → (recorded s).end ≡ no_record
   pub part_empty : (waiting s w ≢ LineWaits) → shown_line s w ≡ []
   pub opening_closed : ((opened c window).refusal ≢ 0) → (opened c window).session ≡ closed
-  pub closed-6 :
+  pub closed_6 :
       ((offered closed w piece).refusal ≡ 6)
       × (waiting_refusal (waiting closed w) ≡ 6)
       × ((answered closed w table hit).refusal ≡ 6)

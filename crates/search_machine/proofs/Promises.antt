@@ -127,20 +127,20 @@ module _ (rest more : List ℕ) (k : first_place newline rest < length rest) whe
 -- # The second line
 
 module _ (c : Settings) (w : List ℕ) (size : length w ≡ window_size) (served : (opened c (length w)).refusal ≡ 0) where
-  abbrev secondAt : List ℕ → State
-  secondAt rest = record { stage = Second; literal = []; standing = begins c w rest }
+  abbrev second_at : List ℕ → State
+  second_at rest = record { stage = Second; literal = []; standing = begins c w rest }
 
-  abbrev secondNext : List ℕ → ℕ → Turn State
-  secondNext rest n = goes [] (record { stage = Text; literal = take n rest; standing = begins c w (drop (n + 1) rest) })
+  abbrev second_next : List ℕ → ℕ → Turn State
+  second_next rest n = goes [] (record { stage = Text; literal = take n rest; standing = begins c w (drop (n + 1) rest) })
 
   abbrev SecondPrints : Then
   SecondPrints n bytes how x = Prints (search_for (take n bytes)) c window_size (drop (n + 1) bytes) how x
 
-  second_turn_lem : (rest : List ℕ) → turn_of (secondAt rest) ≡ line_turn (looked_at rest) (secondAt rest) (secondNext rest)
+  second_turn_lem : (rest : List ℕ) → turn_of (second_at rest) ≡ line_turn (looked_at rest) (second_at rest) (second_next rest)
   unfolding turn_of
   second_turn_lem rest = go (looked_at rest)
     where
-      go : (s : Seen) → second_turn s (secondAt rest) ≡ line_turn s (secondAt rest) (secondNext rest)
+      go : (s : Seen) → second_turn s (second_at rest) ≡ line_turn s (second_at rest) (second_next rest)
       go (Whole n) = refl
       go Unfinished = refl
       go TooLong = refl
@@ -148,7 +148,7 @@ module _ (c : Settings) (w : List ℕ) (size : length w ≡ window_size) (served
   -- the text begins
   text_prints : (rest : List ℕ) (reads : List Read) (n : ℕ) → first_place newline rest < length rest
       → 2 * length (rest ++ bytes_of reads) + 2 * length reads + 2 ≤ n
-      → SecondPrints (first_place newline rest) (rest ++ bytes_of reads) (ending_of reads) (run search n (secondNext rest (first_place newline rest)) reads)
+      → SecondPrints (first_place newline rest) (rest ++ bytes_of reads) (ending_of reads) (run search n (second_next rest (first_place newline rest)) reads)
   unfolding turn_of
   text_prints rest reads zero k l = absurd (omega (arith, l))
   text_prints rest reads (suc n) k l =
@@ -157,12 +157,12 @@ module _ (c : Settings) (w : List ℕ) (size : length w ≡ window_size) (served
       let behind = drop (m + 1) rest in
       let p = search_for literal in
       let st : State = record { stage = Text; literal = literal; standing = begins c w behind } in
-      let same : run search (suc n) (secondNext rest m) reads ≡ run (driver p) n (turns p (begins c w behind)) reads =
-      run_goes search n (secondNext rest m) reads [] st refl ∙ text_run literal n (turns p (begins c w behind)) reads
+      let same : run search (suc n) (second_next rest m) reads ≡ run (driver p) n (turns p (begins c w behind)) reads =
+      run_goes search n (second_next rest m) reads [] st refl ∙ text_run literal n (turns p (begins c w behind)) reads
       in
       let prints = printed p c w behind reads n served (omega (arith, l, behind_less rest (bytes_of reads) k)) in
-      subst (λ x. Prints (search_for x) c window_size (drop (m + 1) (rest ++ bytes_of reads)) (ending_of reads) (run search (suc n) (secondNext rest m) reads)) (sym (line_more rest (bytes_of reads) k))
-      (subst (λ x. Prints p c window_size x (ending_of reads) (run search (suc n) (secondNext rest m) reads)) (sym (behind_more rest (bytes_of reads) k))
+      subst (λ x. Prints (search_for x) c window_size (drop (m + 1) (rest ++ bytes_of reads)) (ending_of reads) (run search (suc n) (second_next rest m) reads)) (sym (line_more rest (bytes_of reads) k))
+      (subst (λ x. Prints p c window_size x (ending_of reads) (run search (suc n) (second_next rest m) reads)) (sym (behind_more rest (bytes_of reads) k))
       (subst (Prints p c window_size (behind ++ bytes_of reads) (ending_of reads)) (sym same)
       (subst (λ x. Prints p c x (behind ++ bytes_of reads) (ending_of reads) (run (driver p) n (turns p (begins c w behind)) reads)) size prints)))
 
@@ -172,11 +172,11 @@ module _ (c : Settings) (w : List ℕ) (size : length w ≡ window_size) (served
   second_is TooLong bytes how x h = h
 
   second_reads : (n : ℕ) (rest : List ℕ) (reads : List Read) → 2 * length (rest ++ bytes_of reads) + 2 * length reads + 4 ≤ n
-      → SearchPrints (second_line (looked_at (rest ++ bytes_of reads)) c (rest ++ bytes_of reads)) (ending_of reads) (run search n (turn_of (secondAt rest)) reads)
+      → SearchPrints (second_line (looked_at (rest ++ bytes_of reads)) c (rest ++ bytes_of reads)) (ending_of reads) (run search n (turn_of (second_at rest)) reads)
   unfolding hears_of
   second_reads n rest reads l =
-      second_is (looked_at (rest ++ bytes_of reads)) (rest ++ bytes_of reads) (ending_of reads) (run search n (turn_of (secondAt rest)) reads)
-      (line_reads secondAt secondNext SecondPrints 2 second_turn_lem (λ _ _. refl) (λ _. refl) (λ _. refl) text_prints n rest reads (omega (arith, l)))
+      second_is (looked_at (rest ++ bytes_of reads)) (rest ++ bytes_of reads) (ending_of reads) (run search n (turn_of (second_at rest)) reads)
+      (line_reads second_at second_next SecondPrints 2 second_turn_lem (λ _ _. refl) (λ _. refl) (λ _. refl) text_prints n rest reads (omega (arith, l)))
 
 -- # The first
 
@@ -184,17 +184,17 @@ module _ (w : List ℕ) (size : length w ≡ window_size) where
   abbrev first_at : List ℕ → State
   first_at rest = record { stage = First; literal = []; standing = record { session = closed; window = w; rest = rest } }
 
-  abbrev firstNext : List ℕ → ℕ → Turn State
-  firstNext rest n = asks (asked_of (take n rest)) [] w (drop (n + 1) rest)
+  abbrev first_next : List ℕ → ℕ → Turn State
+  first_next rest n = asks (asked_of (take n rest)) [] w (drop (n + 1) rest)
 
   abbrev FirstPrints : Then
   FirstPrints n bytes how x = SearchPrints (asked_line (asked_of (take n bytes)) (drop (n + 1) bytes)) how x
 
-  first_turn_lem : (rest : List ℕ) → turn_of (first_at rest) ≡ line_turn (looked_at rest) (first_at rest) (firstNext rest)
+  first_turn_lem : (rest : List ℕ) → turn_of (first_at rest) ≡ line_turn (looked_at rest) (first_at rest) (first_next rest)
   unfolding turn_of
   first_turn_lem rest = go (looked_at rest)
     where
-      go : (s : Seen) → first_turn s (first_at rest) ≡ line_turn s (first_at rest) (firstNext rest)
+      go : (s : Seen) → first_turn s (first_at rest) ≡ line_turn s (first_at rest) (first_next rest)
       go (Whole n) = refl
       go Unfinished = refl
       go TooLong = refl
@@ -229,13 +229,13 @@ module _ (w : List ℕ) (size : length w ≡ window_size) where
 
   asked_prints : (rest : List ℕ) (reads : List Read) (n : ℕ) → first_place newline rest < length rest
       → 2 * length (rest ++ bytes_of reads) + 2 * length reads + 3 ≤ n
-      → FirstPrints (first_place newline rest) (rest ++ bytes_of reads) (ending_of reads) (run search n (firstNext rest (first_place newline rest)) reads)
+      → FirstPrints (first_place newline rest) (rest ++ bytes_of reads) (ending_of reads) (run search n (first_next rest (first_place newline rest)) reads)
   asked_prints rest reads zero k l = absurd (omega (arith, l))
   asked_prints rest reads (suc n) k l =
       let m = first_place newline rest in
       let behind = drop (m + 1) rest in
-      subst (λ x. SearchPrints (asked_line (asked_of x) (drop (m + 1) (rest ++ bytes_of reads))) (ending_of reads) (run search (suc n) (firstNext rest m) reads)) (sym (line_more rest (bytes_of reads) k))
-      (subst (λ x. SearchPrints (asked_line (asked_of (take m rest)) x) (ending_of reads) (run search (suc n) (firstNext rest m) reads)) (sym (behind_more rest (bytes_of reads) k))
+      subst (λ x. SearchPrints (asked_line (asked_of x) (drop (m + 1) (rest ++ bytes_of reads))) (ending_of reads) (run search (suc n) (first_next rest m) reads)) (sym (line_more rest (bytes_of reads) k))
+      (subst (λ x. SearchPrints (asked_line (asked_of (take m rest)) x) (ending_of reads) (run search (suc n) (first_next rest m) reads)) (sym (behind_more rest (bytes_of reads) k))
       (ask_prints (asked_of (take m rest)) behind reads n (omega (arith, l, behind_less rest (bytes_of reads) k))))
 
   first_is : (s : Seen) (bytes : List ℕ) (how : Ending) (x : List ℕ) → LinePrints FirstPrints s bytes how x → SearchPrints (first_line s bytes) how x
@@ -247,7 +247,7 @@ pub searched : Searched
 unfolding heading_of hears_of
 searched w reads n size l =
     first_is w size (looked_at (bytes_of reads)) (bytes_of reads) (ending_of reads) (run search n (turn_of (starts w)) reads)
-    (line_reads (first_at w size) (firstNext w size) (FirstPrints w size) 3 (first_turn_lem w size) (λ _ _. refl) (λ _. refl) (λ _. refl) (asked_prints w size) n [] reads (omega (arith, l)))
+    (line_reads (first_at w size) (first_next w size) (FirstPrints w size) 3 (first_turn_lem w size) (λ _ _. refl) (λ _. refl) (λ _. refl) (asked_prints w size) n [] reads (omega (arith, l)))
 
 pub searched_alike : SearchedAlike
 searched_alike w v reads others n m size same bytes ending k l =

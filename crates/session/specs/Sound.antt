@@ -35,7 +35,7 @@ places_agree p = every (places_tests p)
 unfoldable pub agrees : Session → Bool
 agrees s = places_agree s.places && walk_agrees s.walk (since_bytes s) (ahead_bytes s)
 
--- what the tests say, as facts (proofs/Agree.antt: agree-of, agrees_of)
+-- what the tests say, as facts (proofs/Agree.antt: agree_of, agrees_of)
 pub record PlacesAgree (p : Places) : Type 0 where
   pub some : 0 < p.window
   pub most : p.window ≤ max_window

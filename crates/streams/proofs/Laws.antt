@@ -69,11 +69,7 @@ keeps_of_consumes None new h = tt
 keeps_of_consumes (Some xs) None h = h
 keeps_of_consumes (Some xs) (Some ys) h = sym h
 
-pub appends_none : (known : Option (List ℕ)) → Appends known known []
-appends_none None = tt
-appends_none (Some xs) = sym (append-nil xs)
-
-pub appends_more : (old mid new : Option (List ℕ)) (xs ys : List ℕ) → Appends old mid xs → Appends mid new ys → Appends old new (xs ++ ys)
+appends_more : (old mid new : Option (List ℕ)) (xs ys : List ℕ) → Appends old mid xs → Appends mid new ys → Appends old new (xs ++ ys)
 appends_more None mid new xs ys h k = tt
 appends_more (Some a) None new xs ys h k = absurd h
 appends_more (Some a) (Some b) None xs ys h k = k
