@@ -192,9 +192,9 @@ def main():
     write(listed, "\n".join(lines))
     for old, new in RENAMED.items():
         subprocess.run(["git", "-C", TOP, "mv", f"crates/{old}", f"crates/{new}"], check=True)
-    with open("/tmp/port-names.txt", "w", encoding="utf-8") as f:
-        f.writelines(f"{a} {b}\n" for a, b in sorted(names.items()))
-    print(f"{len(names)} names turned; the list is in /tmp/port-names.txt")
+    for a, b in sorted(names.items()):
+        print(f"{a} is {b}")
+    print(f"{len(names)} names turned")
     return 0
 
 
