@@ -1,54 +1,56 @@
-// What the programs do where a read or a write fails in mid-stream, which no clause says in full: tests over readers and
-// writers that fail. They stand apart, so that no crate is proved again for them.
+// What the programs do where a read or a write fails in mid-stream, which no clause says in full: a reader and a writer that fail,
+// and tests over them. They stand apart, so that no crate is proved again for them.
 #![tactic(auto)]
+
+use std::io::{Error, Read, Result, Write};
+
+// A reader that some signals come before, and whose reads fail from then on, or give the end where there is no errno.
+#[derive(Drop)]
+pub struct Failing {
+    pub signals: usize,
+    pub error: i32,
+}
+
+impl Read for Failing {
+    fn read(&mut self, _buffer: &mut [u8]) -> Result<usize> {
+        if 0 < self.signals {
+            self.signals -= 1;
+            return Err(Error::from_raw_os_error(4));
+        }
+        if self.error == 0 {
+            return Ok(0);
+        }
+        Err(Error::from_raw_os_error(self.error))
+    }
+}
+
+// A writer that takes at most three bytes a call, and fails once it holds the most.
+#[derive(Drop)]
+pub struct Full {
+    pub held: Vec<u8>,
+    pub most: usize,
+}
+
+impl Write for Full {
+    fn write(&mut self, text: &[u8]) -> Result<usize> {
+        let room = self.most.saturating_sub(self.held.len());
+        let size = room.min(text.len()).min(3);
+        if size == 0 {
+            return Err(Error::from_raw_os_error(28));
+        }
+        self.held.extend_from_slice(&text[..size])?;
+        Ok(size)
+    }
+
+    fn flush(&mut self) -> Result<()> {
+        Ok(())
+    }
+}
 
 #[cfg(test)]
 mod tests {
-    use std::io::{Error, Read, Result, Write};
+    use super::{Failing, Full};
     use streams::Streams;
-
-    // A reader that some signals come before, and whose reads fail from then on, or give the end where there is no errno.
-    #[derive(Drop)]
-    struct Failing {
-        signals: usize,
-        error: i32,
-    }
-
-    impl Read for Failing {
-        fn read(&mut self, _buffer: &mut [u8]) -> Result<usize> {
-            if 0 < self.signals {
-                self.signals -= 1;
-                return Err(Error::from_raw_os_error(4));
-            }
-            if self.error == 0 {
-                return Ok(0);
-            }
-            Err(Error::from_raw_os_error(self.error))
-        }
-    }
-
-    // A writer that takes at most three bytes a call, and fails once it holds the most.
-    #[derive(Drop)]
-    struct Full {
-        held: Vec<u8>,
-        most: usize,
-    }
-
-    impl Write for Full {
-        fn write(&mut self, text: &[u8]) -> Result<usize> {
-            let room = self.most.saturating_sub(self.held.len());
-            let size = room.min(text.len()).min(3);
-            if size == 0 {
-                return Err(Error::from_raw_os_error(28));
-            }
-            self.held.extend_from_slice(&text[..size])?;
-            Ok(size)
-        }
-
-        fn flush(&mut self) -> Result<()> {
-            Ok(())
-        }
-    }
 
     // Its settings, the literal and a text of two lines, the first with a match.
     const SEARCH: &[u8] = b"0 0 0 0 -\nx\nax\nb\n";

@@ -82,6 +82,19 @@ pub same_sizes : (window table literal input out : List ℕ) → Sizes window ta
 same_sizes window table literal input out =
     record { window_size = refl; table_size = refl; literal_size = refl; input_size = refl; out_size = refl }
 
+pub sizes_next : {window₀ table₀ literal₀ input₀ out₀ window table literal input out window' table' literal' input' out' : List ℕ}
+    → Sizes window₀ table₀ literal₀ input₀ out₀ window table literal input out
+    → length window' ≡ length window → length table' ≡ length table → length literal' ≡ length literal → length input' ≡ length input
+    → length out' ≡ length out → Sizes window₀ table₀ literal₀ input₀ out₀ window' table' literal' input' out'
+sizes_next z w t l i o =
+    record {
+      window_size = w ∙ z.window_size;
+      table_size = t ∙ z.table_size;
+      literal_size = l ∙ z.literal_size;
+      input_size = i ∙ z.input_size;
+      out_size = o ∙ z.out_size;
+    }
+
 pub lent_still : {window₀ table₀ literal₀ input₀ out₀ window table literal input out : List ℕ}
     → Sizes window₀ table₀ literal₀ input₀ out₀ window table literal input out
     → Lent window₀ table₀ literal₀ input₀ out₀
