@@ -127,6 +127,11 @@ pub record Asked (stage : Stage) (l : List ℕ) (s : Session) (w table : List �
   pub answers : r ≡ door_answered (answered s w table hit)
   pub writes : after ≡ answered_table s w table hit
 
+pub asked_by : {stage : Stage} {l : List ℕ} {s : Session} {w table line : List ℕ} {hit : Bool} {r : Answered} {after : List ℕ}
+    → stage ≡ Text → length table ≡ table_size → line ≡ shown_line s w → hit ≡ stands l line → r ≡ door_answered (answered s w table hit)
+    → after ≡ answered_table s w table hit → Asked stage l s w table line hit r after
+asked_by t z i m a e = record { in_text = t; size = z; shows = i; matches = m; answers = a; writes = e }
+
 module _ {stage : Stage} {l : List ℕ} {s : Session} {w table line : List ℕ} {hit : Bool} {r : Answered} {after : List ℕ} (a : Asked stage l s w table line hit r after) where
   -- the rows lie in the table
   pub asked_rows : row_size * r.rows ≤ length table

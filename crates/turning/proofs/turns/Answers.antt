@@ -1,21 +1,26 @@
 -- The invariant: the turns made so far lead from the state at entry to the state as it stands, and what they print is pending.
-use Rattle.std.proofs.Common.{◌≡◌, ◌+◌, ◌-◌, ◌*◌, ◌<◌, ◌≤◌, ltb, leb, length, take, ap, ◌∙◌, arith, length-take, ltb-true, leb-true}
+use Rattle.std.proofs.Common.{ℕ, true, ◌&&◌, List, ◌≡◌, ◌+◌, ◌-◌, ◌*◌, ◌<◌, ◌≤◌, ltb, leb, length, take, ap, ◌∙◌, arith, length-take, ltb-true, leb-true}
 use mathlib.Core.Bool.{and-eq-true_iff}
 use Rattle.definition.specs.Rows.{row_size}
 use Rattle.search_machine.specs.Standing.{turn_most}
 use Rattle.printing.specs.Texts.{row_most}
-use Rattle.turning.proofs.Answers.{Asked, asked_rows}
+use Rattle.turning.proofs.Answers.{asked_by, asked_rows}
 use Rattle.turning.proofs.Looping.{loop_ends, loop_goes, loop_gives, loop_refuses, loop_start, loop_stops, loop_taken, loop_wants}
 use Rattle.turning.proofs.turns.Goals as goal
+
+-- turns are left, and the output has room for one
+may_turn : (turns : ℕ) (out : List ℕ) (pending : ℕ) → (ltb 0 turns && leb turn_most (length out - pending)) ≡ true
+    → (0 < turns) × (turn_most ≤ length out - pending)
+may_turn turns out pending h =
+    let both = (and-eq-true_iff (ltb 0 turns) (leb turn_most (length out - pending))).0 h in
+    (ltb-true 0 turns both.0, leb-true turn_most (length out - pending) both.1)
 
 pub loop-turns-init : goal.loop-turns-init
 loop-turns-init c = loop_start c.args.s c.args.window.now c.args.table.now c.args.literal.now c.args.input.now c.args.out.now c.requires.1
 
 pub overflow_sub-turns : goal.overflow_sub-turns
 overflow_sub-turns c =
-    let may : (0 < c.loop-turns.turns) × (turn_most ≤ length c.loop-turns.out - c.loop-turns.pending.length) =
-    let both = (and-eq-true_iff (ltb 0 c.loop-turns.turns) (leb turn_most (length c.loop-turns.out - c.loop-turns.pending.length))).0 c.loop-turns-test.true in
-    (ltb-true 0 c.loop-turns.turns both.0, leb-true turn_most (length c.loop-turns.out - c.loop-turns.pending.length) both.1) in
+    let may = may_turn c.loop-turns.turns c.loop-turns.out c.loop-turns.pending.length c.loop-turns-test.true in
     omega (arith, may)
 
 pub slice_bounds-contains_by-end : goal.slice_bounds-contains_by-end
@@ -25,18 +30,8 @@ slice_bounds-contains_by-end c =
 
 pub rows-pending-requires : goal.rows-pending-requires
 rows-pending-requires c =
-    let asked : Asked c.args.s.stage (take c.args.s.size c.args.literal.now) c.loop-turns.searcher.session c.loop-turns.window c.loop-turns.table c.line.result.now c.contains_by-hit.result c.answer-answered.result c.answer-answered.new.table =
-    record {
-      in_text = c.requires.0;
-      size = c.loop-turns.invariant.table_size ∙ c.requires.1.lent.table_is;
-      shows = c.line.ensures.0;
-      matches = c.contains_by-hit.ensures;
-      answers = c.answer-answered.ensures.0;
-      writes = c.answer-answered.ensures.1;
-    } in
-    let may : (0 < c.loop-turns.turns) × (turn_most ≤ length c.loop-turns.out - c.loop-turns.pending.length) =
-    let both = (and-eq-true_iff (ltb 0 c.loop-turns.turns) (leb turn_most (length c.loop-turns.out - c.loop-turns.pending.length))).0 c.loop-turns-test.true in
-    (ltb-true 0 c.loop-turns.turns both.0, leb-true turn_most (length c.loop-turns.out - c.loop-turns.pending.length) both.1) in
+    let asked = asked_by c.requires.0 (c.loop-turns.invariant.table_size ∙ c.requires.1.lent.table_is) c.line.ensures.0 c.contains_by-hit.ensures c.answer-answered.ensures.0 c.answer-answered.ensures.1 in
+    let may = may_turn c.loop-turns.turns c.loop-turns.out c.loop-turns.pending.length c.loop-turns-test.true in
     let rows = asked_rows asked in
     let in_table : row_size * c.answer-answered.result.rows ≤ length c.answer-answered.new.table = omega (arith, rows, c.answer-answered.auto.table) in
     let in-out : c.loop-turns.pending.length + row_most * c.answer-answered.result.rows ≤ length c.loop-turns.out = omega (arith, rows, may, c.loop-turns.invariant.table_size, c.loop-turns.invariant.within, c.requires.1.lent.table_is) in
@@ -44,25 +39,13 @@ rows-pending-requires c =
 
 pub loop-turns-smaller-then-answered-eq0 : goal.loop-turns-smaller-then-answered-eq0
 loop-turns-smaller-then-answered-eq0 c =
-    let may : (0 < c.loop-turns.turns) × (turn_most ≤ length c.loop-turns.out - c.loop-turns.pending.length) =
-    let both = (and-eq-true_iff (ltb 0 c.loop-turns.turns) (leb turn_most (length c.loop-turns.out - c.loop-turns.pending.length))).0 c.loop-turns-test.true in
-    (ltb-true 0 c.loop-turns.turns both.0, leb-true turn_most (length c.loop-turns.out - c.loop-turns.pending.length) both.1) in
+    let may = may_turn c.loop-turns.turns c.loop-turns.out c.loop-turns.pending.length c.loop-turns-test.true in
     omega (arith, may)
 
 pub loop-turns-preserved-then-answered-eq0 : goal.loop-turns-preserved-then-answered-eq0
 loop-turns-preserved-then-answered-eq0 c =
-    let asked : Asked c.args.s.stage (take c.args.s.size c.args.literal.now) c.loop-turns.searcher.session c.loop-turns.window c.loop-turns.table c.line.result.now c.contains_by-hit.result c.answer-answered.result c.answer-answered.new.table =
-    record {
-      in_text = c.requires.0;
-      size = c.loop-turns.invariant.table_size ∙ c.requires.1.lent.table_is;
-      shows = c.line.ensures.0;
-      matches = c.contains_by-hit.ensures;
-      answers = c.answer-answered.ensures.0;
-      writes = c.answer-answered.ensures.1;
-    } in
-    let may : (0 < c.loop-turns.turns) × (turn_most ≤ length c.loop-turns.out - c.loop-turns.pending.length) =
-    let both = (and-eq-true_iff (ltb 0 c.loop-turns.turns) (leb turn_most (length c.loop-turns.out - c.loop-turns.pending.length))).0 c.loop-turns-test.true in
-    (ltb-true 0 c.loop-turns.turns both.0, leb-true turn_most (length c.loop-turns.out - c.loop-turns.pending.length) both.1) in
+    let asked = asked_by c.requires.0 (c.loop-turns.invariant.table_size ∙ c.requires.1.lent.table_is) c.line.ensures.0 c.contains_by-hit.ensures c.answer-answered.ensures.0 c.answer-answered.ensures.1 in
+    let may = may_turn c.loop-turns.turns c.loop-turns.out c.loop-turns.pending.length c.loop-turns-test.true in
     loop_gives c.loop-turns.invariant asked may.0 c.if-answered-eq0.true c.answer-answered.auto.table _ _ c.rows-pending.ensures
 
 pub slice_bounds-feed-end : goal.slice_bounds-feed-end
@@ -70,57 +53,25 @@ slice_bounds-feed-end c = omega (arith, c.requires.1.placed, ap length c.loop-tu
 
 pub overflow_add-at : goal.overflow_add-at
 overflow_add-at c =
-    let asked : Asked c.args.s.stage (take c.args.s.size c.args.literal.now) c.loop-turns.searcher.session c.loop-turns.window c.loop-turns.table c.line.result.now c.contains_by-hit.result c.answer-answered.result c.answer-answered.new.table =
-    record {
-      in_text = c.requires.0;
-      size = c.loop-turns.invariant.table_size ∙ c.requires.1.lent.table_is;
-      shows = c.line.ensures.0;
-      matches = c.contains_by-hit.ensures;
-      answers = c.answer-answered.ensures.0;
-      writes = c.answer-answered.ensures.1;
-    } in
-    let may : (0 < c.loop-turns.turns) × (turn_most ≤ length c.loop-turns.out - c.loop-turns.pending.length) =
-    let both = (and-eq-true_iff (ltb 0 c.loop-turns.turns) (leb turn_most (length c.loop-turns.out - c.loop-turns.pending.length))).0 c.loop-turns-test.true in
-    (ltb-true 0 c.loop-turns.turns both.0, leb-true turn_most (length c.loop-turns.out - c.loop-turns.pending.length) both.1) in
+    let asked = asked_by c.requires.0 (c.loop-turns.invariant.table_size ∙ c.requires.1.lent.table_is) c.line.ensures.0 c.contains_by-hit.ensures c.answer-answered.ensures.0 c.answer-answered.ensures.1 in
+    let may = may_turn c.loop-turns.turns c.loop-turns.out c.loop-turns.pending.length c.loop-turns-test.true in
     omega (arith, c.requires.1.placed, c.well_formed, loop_taken c.loop-turns.invariant asked may.0 c.if-answered-eq0.false c.requires.1.placed.to_in (c.feed-fed.ensures.value, c.feed-fed.ensures.window_after))
 
 pub loop-turns-smaller : goal.loop-turns-smaller
 loop-turns-smaller c =
-    let may : (0 < c.loop-turns.turns) × (turn_most ≤ length c.loop-turns.out - c.loop-turns.pending.length) =
-    let both = (and-eq-true_iff (ltb 0 c.loop-turns.turns) (leb turn_most (length c.loop-turns.out - c.loop-turns.pending.length))).0 c.loop-turns-test.true in
-    (ltb-true 0 c.loop-turns.turns both.0, leb-true turn_most (length c.loop-turns.out - c.loop-turns.pending.length) both.1) in
+    let may = may_turn c.loop-turns.turns c.loop-turns.out c.loop-turns.pending.length c.loop-turns-test.true in
     omega (arith, may)
 
 pub loop-turns-preserved : goal.loop-turns-preserved
 loop-turns-preserved c =
-    let asked : Asked c.args.s.stage (take c.args.s.size c.args.literal.now) c.loop-turns.searcher.session c.loop-turns.window c.loop-turns.table c.line.result.now c.contains_by-hit.result c.answer-answered.result c.answer-answered.new.table =
-    record {
-      in_text = c.requires.0;
-      size = c.loop-turns.invariant.table_size ∙ c.requires.1.lent.table_is;
-      shows = c.line.ensures.0;
-      matches = c.contains_by-hit.ensures;
-      answers = c.answer-answered.ensures.0;
-      writes = c.answer-answered.ensures.1;
-    } in
-    let may : (0 < c.loop-turns.turns) × (turn_most ≤ length c.loop-turns.out - c.loop-turns.pending.length) =
-    let both = (and-eq-true_iff (ltb 0 c.loop-turns.turns) (leb turn_most (length c.loop-turns.out - c.loop-turns.pending.length))).0 c.loop-turns-test.true in
-    (ltb-true 0 c.loop-turns.turns both.0, leb-true turn_most (length c.loop-turns.out - c.loop-turns.pending.length) both.1) in
+    let asked = asked_by c.requires.0 (c.loop-turns.invariant.table_size ∙ c.requires.1.lent.table_is) c.line.ensures.0 c.contains_by-hit.ensures c.answer-answered.ensures.0 c.answer-answered.ensures.1 in
+    let may = may_turn c.loop-turns.turns c.loop-turns.out c.loop-turns.pending.length c.loop-turns-test.true in
     loop_goes c.loop-turns.invariant asked may.0 c.if-answered-eq0.false c.requires.1.placed.to_in (c.feed-fed.ensures.value, c.feed-fed.ensures.window_after) c.in-Goes.is c.feed-fed.auto.window c.answer-answered.auto.table
 
 pub wanting-requires : goal.wanting-requires
 wanting-requires c =
-    let asked : Asked c.args.s.stage (take c.args.s.size c.args.literal.now) c.loop-turns.searcher.session c.loop-turns.window c.loop-turns.table c.line.result.now c.contains_by-hit.result c.answer-answered.result c.answer-answered.new.table =
-    record {
-      in_text = c.requires.0;
-      size = c.loop-turns.invariant.table_size ∙ c.requires.1.lent.table_is;
-      shows = c.line.ensures.0;
-      matches = c.contains_by-hit.ensures;
-      answers = c.answer-answered.ensures.0;
-      writes = c.answer-answered.ensures.1;
-    } in
-    let may : (0 < c.loop-turns.turns) × (turn_most ≤ length c.loop-turns.out - c.loop-turns.pending.length) =
-    let both = (and-eq-true_iff (ltb 0 c.loop-turns.turns) (leb turn_most (length c.loop-turns.out - c.loop-turns.pending.length))).0 c.loop-turns-test.true in
-    (ltb-true 0 c.loop-turns.turns both.0, leb-true turn_most (length c.loop-turns.out - c.loop-turns.pending.length) both.1) in
+    let asked = asked_by c.requires.0 (c.loop-turns.invariant.table_size ∙ c.requires.1.lent.table_is) c.line.ensures.0 c.contains_by-hit.ensures c.answer-answered.ensures.0 c.answer-answered.ensures.1 in
+    let may = may_turn c.loop-turns.turns c.loop-turns.out c.loop-turns.pending.length c.loop-turns-test.true in
     rw c.going-left.ensures (loop_taken c.loop-turns.invariant asked may.0 c.if-answered-eq0.false c.requires.1.placed.to_in (c.feed-fed.ensures.value, c.feed-fed.ensures.window_after), omega (arith, c.requires.1.placed, ap length c.loop-turns.invariant.input_is))
 
 pub shape_of-window-in-Wants : goal.shape_of-window-in-Wants
@@ -137,26 +88,14 @@ shape_of-out-in-Wants c = c.loop-turns.invariant.out_size
 
 pub returns-in-Wants : goal.returns-in-Wants
 returns-in-Wants c =
-    let asked : Asked c.args.s.stage (take c.args.s.size c.args.literal.now) c.loop-turns.searcher.session c.loop-turns.window c.loop-turns.table c.line.result.now c.contains_by-hit.result c.answer-answered.result c.answer-answered.new.table =
-    record {
-      in_text = c.requires.0;
-      size = c.loop-turns.invariant.table_size ∙ c.requires.1.lent.table_is;
-      shows = c.line.ensures.0;
-      matches = c.contains_by-hit.ensures;
-      answers = c.answer-answered.ensures.0;
-      writes = c.answer-answered.ensures.1;
-    } in
-    let may : (0 < c.loop-turns.turns) × (turn_most ≤ length c.loop-turns.out - c.loop-turns.pending.length) =
-    let both = (and-eq-true_iff (ltb 0 c.loop-turns.turns) (leb turn_most (length c.loop-turns.out - c.loop-turns.pending.length))).0 c.loop-turns-test.true in
-    (ltb-true 0 c.loop-turns.turns both.0, leb-true turn_most (length c.loop-turns.out - c.loop-turns.pending.length) both.1) in
+    let asked = asked_by c.requires.0 (c.loop-turns.invariant.table_size ∙ c.requires.1.lent.table_is) c.line.ensures.0 c.contains_by-hit.ensures c.answer-answered.ensures.0 c.answer-answered.ensures.1 in
+    let may = may_turn c.loop-turns.turns c.loop-turns.out c.loop-turns.pending.length c.loop-turns-test.true in
     rw (c.wanting.ensures.value, c.going-left.ensures)
     (loop_wants c.loop-turns.invariant asked may.0 c.if-answered-eq0.false c.requires.1.placed.to_in (c.feed-fed.ensures.value, c.feed-fed.ensures.window_after) c.requires.1.placed.literal_in (omega (arith, c.requires.1.lent.input_room)) c.in-Wants.is _ (rw c.going-left.ensures at c.wanting.ensures.input_after) c.wanting.auto.input)
 
 pub refusal-requires : goal.refusal-requires
 refusal-requires c =
-    let may : (0 < c.loop-turns.turns) × (turn_most ≤ length c.loop-turns.out - c.loop-turns.pending.length) =
-    let both = (and-eq-true_iff (ltb 0 c.loop-turns.turns) (leb turn_most (length c.loop-turns.out - c.loop-turns.pending.length))).0 c.loop-turns-test.true in
-    (ltb-true 0 c.loop-turns.turns both.0, leb-true turn_most (length c.loop-turns.out - c.loop-turns.pending.length) both.1) in
+    let may = may_turn c.loop-turns.turns c.loop-turns.out c.loop-turns.pending.length c.loop-turns-test.true in
     omega (arith, may, c.loop-turns.invariant.within)
 
 pub shape_of-window-in-Refuses : goal.shape_of-window-in-Refuses
@@ -173,26 +112,14 @@ shape_of-out-in-Refuses c = c.refusal.auto.out ∙ c.loop-turns.invariant.out_si
 
 pub returns-in-Refuses : goal.returns-in-Refuses
 returns-in-Refuses c =
-    let asked : Asked c.args.s.stage (take c.args.s.size c.args.literal.now) c.loop-turns.searcher.session c.loop-turns.window c.loop-turns.table c.line.result.now c.contains_by-hit.result c.answer-answered.result c.answer-answered.new.table =
-    record {
-      in_text = c.requires.0;
-      size = c.loop-turns.invariant.table_size ∙ c.requires.1.lent.table_is;
-      shows = c.line.ensures.0;
-      matches = c.contains_by-hit.ensures;
-      answers = c.answer-answered.ensures.0;
-      writes = c.answer-answered.ensures.1;
-    } in
-    let may : (0 < c.loop-turns.turns) × (turn_most ≤ length c.loop-turns.out - c.loop-turns.pending.length) =
-    let both = (and-eq-true_iff (ltb 0 c.loop-turns.turns) (leb turn_most (length c.loop-turns.out - c.loop-turns.pending.length))).0 c.loop-turns-test.true in
-    (ltb-true 0 c.loop-turns.turns both.0, leb-true turn_most (length c.loop-turns.out - c.loop-turns.pending.length) both.1) in
+    let asked = asked_by c.requires.0 (c.loop-turns.invariant.table_size ∙ c.requires.1.lent.table_is) c.line.ensures.0 c.contains_by-hit.ensures c.answer-answered.ensures.0 c.answer-answered.ensures.1 in
+    let may = may_turn c.loop-turns.turns c.loop-turns.out c.loop-turns.pending.length c.loop-turns-test.true in
     rw c.over.ensures
     (loop_refuses c.loop-turns.invariant asked may.0 c.if-answered-eq0.false c.requires.1.placed.to_in (c.feed-fed.ensures.value, c.feed-fed.ensures.window_after) c.requires.1.placed.literal_in c.requires.1.placed.from_to _ c.in-Refuses.is _ _ c.refusal.ensures)
 
 pub end-requires : goal.end-requires
 end-requires c =
-    let may : (0 < c.loop-turns.turns) × (turn_most ≤ length c.loop-turns.out - c.loop-turns.pending.length) =
-    let both = (and-eq-true_iff (ltb 0 c.loop-turns.turns) (leb turn_most (length c.loop-turns.out - c.loop-turns.pending.length))).0 c.loop-turns-test.true in
-    (ltb-true 0 c.loop-turns.turns both.0, leb-true turn_most (length c.loop-turns.out - c.loop-turns.pending.length) both.1) in
+    let may = may_turn c.loop-turns.turns c.loop-turns.out c.loop-turns.pending.length c.loop-turns-test.true in
     omega (arith, may, c.loop-turns.invariant.within)
 
 pub shape_of-window-in-Ends : goal.shape_of-window-in-Ends
@@ -209,18 +136,8 @@ shape_of-out-in-Ends c = c.end.auto.out ∙ c.loop-turns.invariant.out_size
 
 pub returns-in-Ends : goal.returns-in-Ends
 returns-in-Ends c =
-    let asked : Asked c.args.s.stage (take c.args.s.size c.args.literal.now) c.loop-turns.searcher.session c.loop-turns.window c.loop-turns.table c.line.result.now c.contains_by-hit.result c.answer-answered.result c.answer-answered.new.table =
-    record {
-      in_text = c.requires.0;
-      size = c.loop-turns.invariant.table_size ∙ c.requires.1.lent.table_is;
-      shows = c.line.ensures.0;
-      matches = c.contains_by-hit.ensures;
-      answers = c.answer-answered.ensures.0;
-      writes = c.answer-answered.ensures.1;
-    } in
-    let may : (0 < c.loop-turns.turns) × (turn_most ≤ length c.loop-turns.out - c.loop-turns.pending.length) =
-    let both = (and-eq-true_iff (ltb 0 c.loop-turns.turns) (leb turn_most (length c.loop-turns.out - c.loop-turns.pending.length))).0 c.loop-turns-test.true in
-    (ltb-true 0 c.loop-turns.turns both.0, leb-true turn_most (length c.loop-turns.out - c.loop-turns.pending.length) both.1) in
+    let asked = asked_by c.requires.0 (c.loop-turns.invariant.table_size ∙ c.requires.1.lent.table_is) c.line.ensures.0 c.contains_by-hit.ensures c.answer-answered.ensures.0 c.answer-answered.ensures.1 in
+    let may = may_turn c.loop-turns.turns c.loop-turns.out c.loop-turns.pending.length c.loop-turns-test.true in
     rw c.over-in-Ends.ensures
     (loop_ends c.loop-turns.invariant asked may.0 c.if-answered-eq0.false c.requires.1.placed.to_in (c.feed-fed.ensures.value, c.feed-fed.ensures.window_after) c.requires.1.placed.literal_in c.requires.1.placed.from_to _ c.in-Ends.is _ _ c.end.ensures)
 
