@@ -50,6 +50,7 @@ impl Write for Full {
 #[cfg(test)]
 mod tests {
     use super::{Failing, Full};
+    use std::io::Read;
     use streams::Streams;
 
     // Its settings, the literal and a text of two lines, the first with a match.
