@@ -17,7 +17,7 @@ def listed(items):
 
 
 def settings(s):
-    limit = "Unlimited" if s.limit is None else f"(Most {s.limit})"
+    limit = "None" if s.limit is None else f"(Some {s.limit})"
     binary = f"({s.binary.capitalize()} {s.byte})" if s.binary in ("quit", "convert") else "Ignore"
     flags = " ".join(str(flag).lower() for flag in (s.invert, s.passing, s.stop))
     return f"(settings {s.before} {s.after} {flags} {limit} {binary})"
@@ -34,7 +34,7 @@ def fields(s, names):
 
 def made_up(s):
     """A session as a literal: its walk and its places."""
-    place = "Nowhere" if s.replaced is None else f"At {s.replaced}"
+    place = "None" if s.replaced is None else f"Some {s.replaced}"
     return (
         f"(record {{ walk = record {{ settings = {settings(s.settings)}; {fields(s, 'bytes lines matches left')}"
         f"given = {str(s.given).lower()}; going = {GOING[s.going]} }}; "

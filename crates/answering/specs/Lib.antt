@@ -1,2 +1,2 @@
 -- What the parts of the code lean on.
-pub mod Answerable
+pub mod Waiting

@@ -1,24 +1,21 @@
 // Asking for the waiting line: whether there is one, and the part of the window that it is.
-#![tactic(auto)]
+#![tactic(auto, unfolding(session::specs::Calls::shown_from, session::specs::Calls::shown_line, session::specs::Calls::waiting, session::specs::Held::unanswered, session::specs::Held::waits, session::specs::Sound::agrees, session::specs::Sound::places_agree, session::specs::Sound::places_tests, session::specs::Sound::sound, driver_core::specs::Walk::line_ahead))]
 
 ghost use Rattle.std.specs.Prelude.{◌≡◌, length};
 ghost use Rattle.session.specs.Calls.{shown_from, shown_line, waiting};
 ghost use Rattle.session.specs.Place.{place_in};
 
-use driver_core::LineAhead;
-use session::{Session, Waiting};
+use definition::Refusal;
+use session::Session;
 
-// Whether a line waits, or refusal 6.
-pub fn waiting(s: Session, window: &[u8]) -> Waiting
+// Whether a line waits.
+pub fn waiting(s: Session, window: &[u8]) -> Result<bool, Refusal>
     ensures { result ≡ waiting s window.now }
 {
     if !held::is_sound(s, window.len()) {
-        return Waiting::WaitingRefused;
+        return Err(Refusal::Unsound);
     }
-    match held::next_line(s, window) {
-        LineAhead::Line(_) => Waiting::LineWaits,
-        LineAhead::NoLine => Waiting::NoneWaits,
-    }
+    Ok(held::next_line(s, window).is_some())
 }
 
 // The waiting line, without its terminator, as a part of the window itself; empty where none waits.
@@ -29,10 +26,6 @@ pub fn line(s: Session, window: &[u8]) -> &[u8]
     if !held::is_sound(s, window.len()) {
         return &window[..0];
     }
-    let walk = s.walk;
     let p = s.places;
-    let next = p.next;
-    let end = p.end;
-    let input = p.input;
-    ahead::line(walk, held::is_open(input), &window[next..end])
+    ahead::line(s.walk, held::is_open(p.input), &window[p.next..p.end])
 }

@@ -8,6 +8,7 @@ use native.Mathlib.Omega.{arith}
 use lib.Dec.{ltb, eqb}
 use lib.ListN.{length, drop}
 use borrow.Author.Tests.{lt-ltb, le-ltb, ne_eqb, eq-eqb}
+use Rattle.definition.specs.declared.Kind.{Kind}
 use Rattle.definition.specs.declared.Row.{Row}
 use Rattle.definition.specs.declared.Settings.{Settings}
 use Rattle.definition.specs.Bounds.{contextual}
@@ -46,7 +47,7 @@ pub at_most_more : (m n : ℕ) (xs : List Row) → m ≤ n → AtMost m xs → A
 at_most_more m n [] h k = tt
 at_most_more m n (x ∷ xs) h k = (omega (arith, k.0), at_most_more m n xs h k.1)
 
-pub at_most_rows : (k n m : ℕ) (ls : List Line) → Numbered m ls → m + length ls ≤ n + 1 → AtMost n (map (row k) ls)
+pub at_most_rows : (k : Kind) (n m : ℕ) (ls : List Line) → Numbered m ls → m + length ls ≤ n + 1 → AtMost n (map (row k) ls)
 at_most_rows k n m [] h b = tt
 at_most_rows k n m (l ∷ ls) h b = (omega (arith, h.0), at_most_rows k n (m + 1) ls h.1 (omega arith))
 
@@ -69,7 +70,7 @@ no_row n [] l h k = refl
 no_row n (r ∷ rows) l h k = rw (ne_eqb r.number l.number (λ e. omega (arith, h.0)), no_row n rows l h.1 k)
 
 -- the row of a line, whatever stands before it
-pub own_row : (rows : List Row) (k : ℕ) (l : Line) → has_row (rows ++ (row k l ∷ [])) l ≡ true
+pub own_row : (rows : List Row) (k : Kind) (l : Line) → has_row (rows ++ (row k l ∷ [])) l ≡ true
 unfolding has_row
 own_row rows k l = rw (has_row_append rows (row k l ∷ []) l, eq-eqb l.number l.number refl) (or-true (has_row rows l))
 
@@ -133,7 +134,7 @@ covered_drop (suc n) rows [] k = refl
 covered_drop (suc n) rows (l ∷ ls) k = covered_drop n rows ls (covered_tail rows l ls k)
 
 -- lines are covered once those of them that had no row get one
-pub covered_given : (k : ℕ) (rows rows' : List Row) (ls : List Line) → Keeps rows rows' → Keeps (map (row k) (rowless rows ls)) rows' → Covered rows' ls
+pub covered_given : (k : Kind) (rows rows' : List Row) (ls : List Line) → Keeps rows rows' → Keeps (map (row k) (rowless rows ls)) rows' → Covered rows' ls
 unfolding rowless has_row
 covered_given k rows rows' [] h g = refl
 covered_given k rows rows' (l ∷ ls) h g = go (has_row rows l) refl g (covered_given k rows rows' ls h)
@@ -201,7 +202,7 @@ abbrev pub Follow : ℕ → List Row → Type 0
 Follow n [] = Unit {0}
 Follow n (r ∷ rows) = (r.number ≡ n) × Follow (n + 1) rows
 
-pub follow_rows : (k n : ℕ) (ls : List Line) (r : Row) → Numbered n ls → r.number ≡ n + length ls → Follow n (map (row k) ls ++ (r ∷ []))
+pub follow_rows : (k : Kind) (n : ℕ) (ls : List Line) (r : Row) → Numbered n ls → r.number ≡ n + length ls → Follow n (map (row k) ls ++ (r ∷ []))
 follow_rows k n [] r h e = (omega arith, tt)
 follow_rows k n (l ∷ ls) r h e = (h.0, follow_rows k (n + 1) ls r h.1 (omega arith))
 

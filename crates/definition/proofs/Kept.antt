@@ -8,6 +8,7 @@ use native.Mathlib.Omega.{arith}
 use lib.Dec.{ltb}
 use lib.ListN.{length, length-append, length-map}
 use borrow.Author.Tests.{ltb-false, lt-ltb, le-ltb}
+use Rattle.definition.specs.declared.Kind.{Kind}
 use Rattle.definition.specs.declared.Row.{Row}
 use Rattle.definition.specs.declared.Fate.{Fate}
 use Rattle.definition.specs.declared.Fate.TheVariants.{Match, After, Other, NoRow}
@@ -17,7 +18,7 @@ use Rattle.definition.specs.declared.Settings.{Settings}
 use Rattle.definition.specs.Bounds.{contextual}
 use Rattle.definition.specs.Definition.{last_of, kept_lines}
 use Rattle.definition.specs.Laws.{RowsBegin, KeptEnough, TrimRows, TrimState}
-use Rattle.definition.specs.Rows.{Line, row, break, before_kind, match_kind}
+use Rattle.definition.specs.Rows.{Line, row, break}
 use Rattle.definition.specs.State.{State, next_line, breaks, rows_for, state_next, fate_of, step_rows, step_state, state, rows, trim, kept_rows}
 use Rattle.definition.proofs.Lists.{last_of_trim_append, length_last_of, last_of_last_of}
 
@@ -166,14 +167,14 @@ breaks_most false = omega arith
 rows_for_most : (f : Fate) (c : Settings) (s : State) (l : Line) → length (rows_for f c s l) ≤ c.before + 2
 unfolding breaks
 rows_for_most Match c s l =
-    let befores = map (row before_kind) (last_of c.before s.since) in
+    let befores = map (row Kind.Before) (last_of c.before s.since) in
     let all = contextual c && s.given && ltb c.before (length s.since) in
     omega (
       arith,
       breaks_most all,
-      length-append (cond all (break ∷ []) []) (befores ++ (row match_kind l ∷ [])),
-      length-append befores (row match_kind l ∷ []),
-      length-map (last_of c.before s.since) (row before_kind),
+      length-append (cond all (break ∷ []) []) (befores ++ (row Kind.Match l ∷ [])),
+      length-append befores (row Kind.Match l ∷ []),
+      length-map (last_of c.before s.since) (row Kind.Before),
       length_last_of c.before s.since,
     )
 rows_for_most After c s l = omega arith

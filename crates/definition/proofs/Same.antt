@@ -10,6 +10,7 @@ use native.Mathlib.Omega.{arith}
 use lib.Dec.{ltb}
 use lib.ListN.{length, take, length-append, length-take, take-append-drop}
 use borrow.Author.Tests.{lt-ltb, le-ltb}
+use Rattle.definition.specs.declared.Kind.{Kind}
 use Rattle.definition.specs.declared.Row.{Row}
 use Rattle.definition.specs.declared.Fate.{Fate}
 use Rattle.definition.specs.declared.Fate.TheVariants.{Match, After, Other, NoRow}
@@ -19,7 +20,7 @@ use Rattle.definition.specs.declared.Settings.{Settings}
 use Rattle.definition.specs.Bounds.{contextual}
 use Rattle.definition.specs.Definition.{fate, selected, after_left_next, matches_next, is_match, going_next, last_of, rowless, between, last_number, give, own_rows, Gone, start, gone_next, go_through, walk, gone_lines, gone, kept_lines, since_last, kept_part, bytes_of, end_record, rows_of, end_of}
 use Rattle.definition.specs.Laws.{SameLines, SameRows, SameEnd, EmptyText, final_state}
-use Rattle.definition.specs.Rows.{Line, row, break, placed, match_kind, before_kind, after_kind, other_kind}
+use Rattle.definition.specs.Rows.{Line, row, break, placed}
 use Rattle.definition.specs.State.{State, begun, next_line, breaks, rows_for, state_next, given_next, since_next, fate_of, step_rows, step_state, state, rows, trim}
 use Rattle.definition.specs.Text.{lines, text}
 use Rattle.definition.proofs.Fates.{FateCase, selects, owes, passes, skips, fate_case}
@@ -105,7 +106,7 @@ module _ (rs : List Row) (done since : List Line) (numbers : Numbered 1 (done ++
   -- the rows that a match gives
   match_rows : (c : Settings) (l : Line) → l.number ≡ 1 + length (done ++ since) → last_number 0 rs ≡ length done → Covered rs (last_of c.before done)
       → give c (done ++ since) rs (own_rows Match c (done ++ since) rs l)
-      ≡ rs ++ (gap c rs (take (length since - c.before) since) ++ (map (row before_kind) (last_of c.before since) ++ (row match_kind l ∷ [])))
+      ≡ rs ++ (gap c rs (take (length since - c.before) since) ++ (map (row Kind.Before) (last_of c.before since) ++ (row Kind.Match l ∷ [])))
   unfolding last_of
   match_rows c l number last covered =
       let early = take (length since - c.before) since in
@@ -116,8 +117,8 @@ module _ (rs : List Row) (done since : List Line) (numbers : Numbered 1 (done ++
       omega (arith, number, length-append done since, length-append early late, ap length split)
       in
       rw (before_are c.before covered)
-      (give_gap c (done ++ since) rs (1 + length done + length early) early (map (row before_kind) late) (row match_kind l)
-      (follow_rows before_kind (1 + length done + length early) late (row match_kind l) back own)
+      (give_gap c (done ++ since) rs (1 + length done + length early) early (map (row Kind.Before) late) (row Kind.Match l)
+      (follow_rows Kind.Before (1 + length done + length early) late (row Kind.Match l) back own)
       (between_are early late (sym split) last))
 
 at_most_break : (n : ℕ) (b : Bool) → AtMost n (cond b (break ∷ []) [])
@@ -153,7 +154,7 @@ module _ (c : Settings) (g : Gone) (s : State) (a : Agree c g s) (len : ℕ) whe
       ap₂ (λ m left. going_next c (not (is_match f)) (matches_next f m) (after_left_next f c left)) a.matches_is a.left_is
 
   -- a line that gets a row: the lines up to it are all done
-  agree_given : (f : Fate) (k : ℕ) (rs : List Row) → since_next f s.since (next_line s len) ≡ [] → given_next f s.given ≡ true
+  agree_given : (f : Fate) (k : Kind) (rs : List Row) → since_next f s.since (next_line s len) ≡ [] → given_next f s.given ≡ true
       → (gone_next f c g (next_line s len)).rows ≡ rs ++ (row k (next_line s len) ∷ []) → AtMost (length g.seen) rs
       → Covered (rs ++ (row k (next_line s len) ∷ [])) (last_of c.before g.seen)
       → Agree c (gone_next f c g (next_line s len)) (state_next f c s len)
@@ -191,7 +192,7 @@ module _ (c : Settings) (g : Gone) (s : State) (a : Agree c g s) (len : ℕ) whe
       × Agree c (gone_next f c g (next_line s len)) (state_next f c s len)
 
   -- a row right after the last one
-  step_next : (f : Fate) (k : ℕ) → s.since ≡ [] → since_next f s.since (next_line s len) ≡ [] → given_next f s.given ≡ true
+  step_next : (f : Fate) (k : Kind) → s.since ≡ [] → since_next f s.since (next_line s len) ≡ [] → given_next f s.given ≡ true
       → own_rows f c g.seen g.rows (next_line s len) ≡ row k (next_line s len) ∷ [] → rows_for f c s (next_line s len) ≡ row k (next_line s len) ∷ []
       → Step f
   step_next f k none none-since some-given own own' =
@@ -224,13 +225,13 @@ module _ (c : Settings) (g : Gone) (s : State) (a : Agree c g s) (len : ℕ) whe
       rw (more, a.given_is)
 
   match_own : (gone_next Match c g (next_line s len)).rows
-      ≡ g.rows ++ (gap c g.rows early ++ (map (row before_kind) (last_of c.before s.since) ++ (row match_kind (next_line s len) ∷ [])))
+      ≡ g.rows ++ (gap c g.rows early ++ (map (row Kind.Before) (last_of c.before s.since) ++ (row Kind.Match (next_line s len) ∷ [])))
   unfolding early
   match_own =
       rw a.seen_is
       (match_rows g.rows a.done s.since (rw a.seen_is at a.numbers) a.at_most c (next_line s len) (rw a.seen_is at number_is) a.last_is a.covered)
 
-  late_most : AtMost (length g.seen) (map (row before_kind) (last_of c.before s.since))
+  late_most : AtMost (length g.seen) (map (row Kind.Before) (last_of c.before s.since))
   unfolding last_of
   late_most =
       let split = take-append-drop (length s.since - c.before) s.since in
@@ -238,16 +239,16 @@ module _ (c : Settings) (g : Gone) (s : State) (a : Agree c g s) (len : ℕ) whe
       let front = take (length s.since - c.before) s.since in
       let numbers = since_numbers g.rows a.done s.since (rw a.seen_is at a.numbers) a.at_most in
       let back = (numbered_append (1 + length a.done) front late (rw split numbers)).1 in
-      at_most_rows before_kind (length g.seen) (1 + length a.done + length front) late back
+      at_most_rows Kind.Before (length g.seen) (1 + length a.done + length front) late back
       (omega (arith, ap length a.seen_is, length-append a.done s.since, length-append front late, ap length split))
 
   step_match : Step Match
   step_match =
       let l = next_line s len in
       let gaps = gap c g.rows early in
-      let befores = map (row before_kind) (last_of c.before s.since) in
+      let befores = map (row Kind.Before) (last_of c.before s.since) in
       let rs = g.rows ++ (gaps ++ befores) in
-      let own : (gone_next Match c g l).rows ≡ rs ++ (row match_kind l ∷ []) = match_own ∙ simp append_assoc in
+      let own : (gone_next Match c g l).rows ≡ rs ++ (row Kind.Match l ∷ []) = match_own ∙ simp append_assoc in
       let most : AtMost (length g.seen) rs =
       at_most_join (length g.seen) g.rows (gaps ++ befores)
       (at_most_more (length a.done) (length g.seen) g.rows (omega (arith, ap length a.seen_is, length-append a.done s.since)) a.at_most)
@@ -256,12 +257,12 @@ module _ (c : Settings) (g : Gone) (s : State) (a : Agree c g s) (len : ℕ) whe
       let late-are : rowless g.rows (last_of c.before g.seen) ≡ last_of c.before s.since =
       rw a.seen_is (before_are g.rows a.done s.since (rw a.seen_is at a.numbers) a.at_most c.before a.covered)
       in
-      let cover : Covered (rs ++ (row match_kind l ∷ [])) (last_of c.before g.seen) =
-      covered_given before_kind g.rows (rs ++ (row match_kind l ∷ [])) (last_of c.before g.seen)
-      (λ x e. keeps_left rs (row match_kind l ∷ []) x (keeps_left g.rows (gaps ++ befores) x e))
-      (λ x e. keeps_left rs (row match_kind l ∷ []) x (keeps_right g.rows (gaps ++ befores) x (keeps_right gaps befores x (rw late-are at e))))
+      let cover : Covered (rs ++ (row Kind.Match l ∷ [])) (last_of c.before g.seen) =
+      covered_given Kind.Before g.rows (rs ++ (row Kind.Match l ∷ [])) (last_of c.before g.seen)
+      (λ x e. keeps_left rs (row Kind.Match l ∷ []) x (keeps_left g.rows (gaps ++ befores) x e))
+      (λ x e. keeps_left rs (row Kind.Match l ∷ []) x (keeps_right g.rows (gaps ++ befores) x (keeps_right gaps befores x (rw late-are at e))))
       in
-      (match_own ∙ rw gap_is, agree_given Match match_kind rs refl refl own most cover)
+      (match_own ∙ rw gap_is, agree_given Match Kind.Match rs refl refl own most cover)
 
   step_none : Right NoRow → Step NoRow
   unfolding give state_next next_line
@@ -288,8 +289,8 @@ module _ (c : Settings) (g : Gone) (s : State) (a : Agree c g s) (len : ℕ) whe
 
   step : (f : Fate) → Right f → Step f
   step Match h = step_match
-  step After h = step_next After after_kind h refl refl refl refl
-  step Other h = step_next Other other_kind h refl refl refl refl
+  step After h = step_next After Kind.After h refl refl refl refl
+  step Other h = step_next Other Kind.Other h refl refl refl refl
   step NoRow h = step_none h
 
 -- # All lines

@@ -1,15 +1,13 @@
 -- 01, "Settings and sizes": the bounds, each in one place, and which settings are served.
-use Rattle.std.specs.Prelude.{ℕ, Bool, true, false, not, ◌&&◌, ◌||◌, ltb, leb}
+use Rattle.std.specs.Prelude.{ℕ, Bool, true, false, not, ◌&&◌, ◌||◌, ltb, leb, Option, Some, None}
 use Rattle.definition.specs.declared.Binary.TheVariants.{Ignore}
 use Rattle.definition.specs.declared.Settings.{Settings}
-use Rattle.definition.specs.declared.Limit.{Limit}
-use Rattle.definition.specs.declared.Limit.TheVariants.{Unlimited, Most}
 
 -- "Before B and after A: 0 to 1,000 each."
 abbrev pub max_context : ℕ
 max_context = 1000
 
--- "Limit: none, or 0 to 4,294,967,295."
+-- "Option ℕ: none, or 0 to 4,294,967,295."
 abbrev pub max_limit : ℕ
 max_limit = 4294967295
 
@@ -21,9 +19,9 @@ max_window = 65536
 abbrev pub max_input : ℕ
 max_input = 4294967295
 
-abbrev pub limit_in_range : Limit → Bool
-limit_in_range Unlimited = true
-limit_in_range (Most n) = leb n max_limit
+abbrev pub limit_in_range : Option ℕ → Bool
+limit_in_range None = true
+limit_in_range (Some n) = leb n max_limit
 
 -- Whether context is asked for: "B or A is above 0".
 unfoldable pub contextual : Settings → Bool
@@ -46,7 +44,7 @@ plain terminator =
       invert = false;
       passthru = false;
       stop = false;
-      limit = Unlimited;
+      limit = None;
       terminator = terminator;
       binary = Ignore;
     }

@@ -1,29 +1,29 @@
 -- 01, "The whole-input definition", in its own words: the rows and the end record of a search, from the settings, the whole input
 -- and a yes or no for each line. Nothing here speaks of windows, pieces or calls.
-use Rattle.std.specs.Prelude.{ℕ, ◌+◌, ◌-◌, Bool, true, false, cond, not, ◌&&◌, ◌||◌, List, [], ◌∷◌, ◌++◌, map, length, drop, ltb, leb, eqb}
+use Rattle.std.specs.Prelude.{ℕ, ◌+◌, ◌-◌, Bool, true, false, cond, not, ◌&&◌, ◌||◌, List, [], ◌∷◌, ◌++◌, map, length, drop, ltb, leb, eqb, Option, Some, None}
 use Rattle.std.specs.Bool.{xor}
+use Rattle.definition.specs.declared.Kind.{Kind}
 use Rattle.definition.specs.declared.Row.{Row}
 use Rattle.definition.specs.declared.Fate.{Fate}
 use Rattle.definition.specs.declared.Fate.TheVariants.{Match, After, Other, NoRow}
 use Rattle.definition.specs.declared.Binary.{Binary}
 use Rattle.definition.specs.declared.Binary.TheVariants.{Ignore, Quit, Convert}
+use Rattle.definition.specs.declared.Cause.{Cause}
+use Rattle.definition.specs.declared.Cause.TheVariants.{InputEnd, QuitByte, Limit, Nonmatch}
 use Rattle.definition.specs.declared.End.{End}
 use Rattle.definition.specs.declared.Going.{Going}
 use Rattle.definition.specs.declared.Going.TheVariants.{On, LimitMet, NonmatchMet}
-use Rattle.definition.specs.declared.Limit.{Limit}
-use Rattle.definition.specs.declared.Limit.TheVariants.{Unlimited, Most}
-use Rattle.definition.specs.declared.Place.{Place}
-use Rattle.definition.specs.declared.Place.TheVariants.{Nowhere, At}
 use Rattle.definition.specs.declared.Settings.{Settings}
 use Rattle.definition.specs.Bounds.{contextual}
-use Rattle.definition.specs.Rows.{Line, row, break, placed, match_kind, before_kind, after_kind, other_kind}
+use Rattle.definition.specs.Numbers.{cause_number}
+use Rattle.definition.specs.Rows.{Line, row, break, placed}
 use Rattle.definition.specs.Text.{first_place, lines, text}
 
 -- # Which lines get which row
 
-abbrev pub limit_reached : Limit → ℕ → Bool
-limit_reached Unlimited matches = false
-limit_reached (Most n) matches = leb n matches
+abbrev pub limit_reached : Option ℕ → ℕ → Bool
+limit_reached None matches = false
+limit_reached (Some n) matches = leb n matches
 
 -- "A line is selected when the limit is not yet reached and its answer differs from invert."
 unfoldable pub selected : Settings → ℕ → Bool → Bool
@@ -68,9 +68,9 @@ last_of n xs = drop (length xs - n) xs
 
 -- "those of the last B lines before it that have no row yet come as before-context, then the match"
 abbrev pub own_rows : Fate → Settings → List Line → List Row → Line → List Row
-own_rows Match c seen rows l = map (row before_kind) (rowless rows (last_of c.before seen)) ++ (row match_kind l ∷ [])
-own_rows After c seen rows l = row after_kind l ∷ []
-own_rows Other c seen rows l = row other_kind l ∷ []
+own_rows Match c seen rows l = map (row Kind.Before) (rowless rows (last_of c.before seen)) ++ (row Kind.Match l ∷ [])
+own_rows After c seen rows l = row Kind.After l ∷ []
+own_rows Other c seen rows l = row Kind.Other l ∷ []
 own_rows NoRow c seen rows l = []
 
 -- # Breaks
@@ -171,24 +171,21 @@ quit_met (Quit b) input = ltb (first_place b input) (length input)
 quit_met (Convert b) input = false
 
 -- "cause (0 end of input, 1 Quit byte, 2 limit, 3 nonmatch)"
-abbrev pub cause_of : Going → Bool → ℕ
-cause_of On quit = cond quit 1 0
-cause_of LimitMet quit = 2
-cause_of NonmatchMet quit = 3
+abbrev pub cause_of : Going → Bool → Cause
+cause_of On quit = cond quit QuitByte InputEnd
+cause_of LimitMet quit = Limit
+cause_of NonmatchMet quit = Nonmatch
 
 -- "the Quit byte's under cause 1, under Convert the first replaced byte among those gone through, else none"
-abbrev pub binary_place : Binary → ℕ → ℕ → ℕ → List ℕ → Place
-binary_place Ignore terminator cause bytes input = Nowhere
-binary_place (Quit b) terminator cause bytes input = cond (eqb cause 1) (At (first_place b input)) Nowhere
+abbrev pub binary_place : Binary → ℕ → Cause → ℕ → List ℕ → Option ℕ
+binary_place Ignore terminator cause bytes input = None
+binary_place (Quit b) terminator cause bytes input = cond (eqb (cause_number cause) 1) (Some (first_place b input)) None
 binary_place (Convert b) terminator cause bytes input =
-    cond (not (eqb b terminator) && ltb (first_place b input) bytes) (At (first_place b input)) Nowhere
+    cond (not (eqb b terminator) && ltb (first_place b input) bytes) (Some (first_place b input)) None
 
--- "written as flag 0 and number 0"
-abbrev pub end_with : ℕ → ℕ → ℕ → ℕ → Place → End
-end_with bytes count matches cause Nowhere =
-    record { bytes = bytes; lines = count; matches = matches; cause = cause; flag = 0; offset = 0 }
-end_with bytes count matches cause (At p) =
-    record { bytes = bytes; lines = count; matches = matches; cause = cause; flag = 1; offset = p }
+abbrev pub end_with : ℕ → ℕ → ℕ → Cause → Option ℕ → End
+end_with bytes count matches cause place =
+    record { bytes = bytes; lines = count; matches = matches; cause = cause; binary_offset = place }
 
 unfoldable pub end_record : Settings → List ℕ → ℕ → ℕ → ℕ → Going → End
 end_record c input bytes count matches going =

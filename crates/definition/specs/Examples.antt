@@ -1,21 +1,19 @@
 -- 01, "Examples on both sides": P1 to P11, the ones to be proved, as one table under one claim about the definition; and a second table
 -- under the same claim for what those leave open. proofs/Examples.antt proves both claims by computation.
-use Rattle.std.specs.Prelude.{ℕ, ◌≡◌, Bool, true, false, ◌||◌, List, [], ◌∷◌, map, eqb}
-use Rattle.definition.specs.declared.Row.{Row}
+use Rattle.std.specs.Prelude.{ℕ, ◌≡◌, Bool, true, false, ◌||◌, List, [], ◌∷◌, map, eqb, Option, Some, None}
 use Rattle.definition.specs.declared.Binary.{Binary}
 use Rattle.definition.specs.declared.Binary.TheVariants.{Ignore, Quit, Convert}
-use Rattle.definition.specs.declared.End.{End}
-use Rattle.definition.specs.declared.Limit.{Limit}
-use Rattle.definition.specs.declared.Limit.TheVariants.{Unlimited, Most}
 use Rattle.definition.specs.declared.Settings.{Settings}
 use Rattle.definition.specs.Definition.{rows_of, end_of}
+use Rattle.definition.specs.Numbers.{end_numbers}
+use Rattle.definition.specs.Rows.{flat}
 use Rattle.definition.specs.State.{begun, kept_rows}
 use Rattle.definition.specs.Text.{handed, lines, text}
 
--- the rows and the end record
+-- the rows and the end record, as 01 writes them: four numbers a row, and six of the end
 pub record Outcome : Type 0 where
-  pub rows : List Row
-  pub end : End
+  pub rows : List (List ℕ)
+  pub end : List ℕ
 
 pub record Example : Type 0 where
   pub settings : Settings
@@ -31,8 +29,8 @@ answers_at (h ∷ hits) n = eqb h n || answers_at hits n
 abbrev pub computed : Example → Outcome
 computed e =
     record {
-      rows = rows_of e.settings e.input (answers_at e.hits);
-      end = end_of e.settings e.input (answers_at e.hits);
+      rows = map flat (rows_of e.settings e.input (answers_at e.hits));
+      end = end_numbers (end_of e.settings e.input (answers_at e.hits));
     }
 
 abbrev pub written : Example → Outcome
@@ -43,8 +41,8 @@ abbrev pub Holds : List Example → Type 0
 Holds table = map computed table ≡ map written table
 
 -- And so does the walk that forgets all lines but the kept ones.
-abbrev pub kept : Example → List Row
-kept e = kept_rows e.settings (answers_at e.hits) (begun e.settings) (lines e.settings.terminator (text e.settings e.input))
+abbrev pub kept : Example → List (List ℕ)
+kept e = map flat (kept_rows e.settings (answers_at e.hits) (begun e.settings) (lines e.settings.terminator (text e.settings e.input)))
 
 abbrev pub HoldsKept : List Example → Type 0
 HoldsKept table = map kept table ≡ map (λ e. e.outcome.rows) table
@@ -54,7 +52,7 @@ abbrev pub HandsOver : Type 0
 HandsOver = handed 10 (97 ∷ 13 ∷ 10 ∷ []) ≡ 97 ∷ 13 ∷ []
 
 -- newline for terminator; invert, passthru and stop in this order
-abbrev pub settings : ℕ → ℕ → Bool → Bool → Bool → Limit → Binary → Settings
+abbrev pub settings : ℕ → ℕ → Bool → Bool → Bool → Option ℕ → Binary → Settings
 settings b a invert passthru stop limit binary =
     record {
       before = b;
@@ -68,16 +66,15 @@ settings b a invert passthru stop limit binary =
     }
 
 abbrev pub context : ℕ → ℕ → Settings
-context b a = settings b a false false false Unlimited Ignore
+context b a = settings b a false false false None Ignore
 
-abbrev pub r : ℕ → ℕ → ℕ → ℕ → Row
-r kind offset length number = record { kind = kind; offset = offset; length = length; number = number }
+abbrev pub r : ℕ → ℕ → ℕ → ℕ → List ℕ
+r kind offset length number = kind ∷ (offset ∷ (length ∷ (number ∷ [])))
 
-abbrev pub e : ℕ → ℕ → ℕ → ℕ → ℕ → ℕ → End
-e bytes lines matches cause flag offset =
-    record { bytes = bytes; lines = lines; matches = matches; cause = cause; flag = flag; offset = offset }
+abbrev pub e : ℕ → ℕ → ℕ → ℕ → ℕ → ℕ → List ℕ
+e bytes lines matches cause flag offset = bytes ∷ (lines ∷ (matches ∷ (cause ∷ (flag ∷ (offset ∷ [])))))
 
-abbrev pub ex : Settings → List ℕ → List ℕ → List Row → End → Example
+abbrev pub ex : Settings → List ℕ → List ℕ → List (List ℕ) → List ℕ → Example
 ex c input hits rows end = record { settings = c; input = input; hits = hits; outcome = record { rows = rows; end = end } }
 
 -- "T is a b c d e, each ended by newline (10 bytes)"
@@ -104,19 +101,19 @@ P =
     -- P4: 01 gives the kinds; offsets, lengths, numbers and the end by hand
     ∷ ex (context 1 1) T at_be (r 2 0 2 1 ∷ r 1 2 2 2 ∷ r 3 4 2 3 ∷ r 2 6 2 4 ∷ r 1 8 2 5 ∷ []) (e 10 5 2 0 0 0)
     -- P5: 01 gives the offsets; lengths, numbers and the end by hand
-    ∷ ex (settings 0 0 true false false Unlimited Ignore) T at_be (r 1 0 2 1 ∷ r 1 4 2 3 ∷ r 1 6 2 4 ∷ []) (e 10 5 3 0 0 0)
+    ∷ ex (settings 0 0 true false false None Ignore) T at_be (r 1 0 2 1 ∷ r 1 4 2 3 ∷ r 1 6 2 4 ∷ []) (e 10 5 3 0 0 0)
     -- P6; lines and matches of the end by hand
-    ∷ ex (settings 0 2 false false false (Most 1) Ignore) T (2 ∷ 3 ∷ []) (r 1 2 2 2 ∷ r 3 4 2 3 ∷ r 3 6 2 4 ∷ []) (e 8 4 1 2 0 0)
+    ∷ ex (settings 0 2 false false false (Some 1) Ignore) T (2 ∷ 3 ∷ []) (r 1 2 2 2 ∷ r 3 4 2 3 ∷ r 3 6 2 4 ∷ []) (e 8 4 1 2 0 0)
     -- P7; lines and matches of the end by hand
-    ∷ ex (settings 0 1 true false false (Most 1) Ignore) T [] (r 1 0 2 1 ∷ r 3 2 2 2 ∷ []) (e 4 2 1 2 0 0)
+    ∷ ex (settings 0 1 true false false (Some 1) Ignore) T [] (r 1 0 2 1 ∷ r 3 2 2 2 ∷ []) (e 4 2 1 2 0 0)
     -- P8
     ∷ ex (context 0 0) [] [] [] (e 0 0 0 0 0 0)
     -- P9; the end by hand
     ∷ ex (context 0 0) (97 ∷ []) (1 ∷ []) (r 1 0 1 1 ∷ []) (e 1 1 1 0 0 0)
     -- P10; lines and matches of the end by hand
-    ∷ ex (settings 0 0 false false false Unlimited (Quit 0)) N (1 ∷ 2 ∷ 3 ∷ []) (r 1 0 2 1 ∷ r 1 2 1 2 ∷ []) (e 3 2 2 1 1 3)
+    ∷ ex (settings 0 0 false false false None (Quit 0)) N (1 ∷ 2 ∷ 3 ∷ []) (r 1 0 2 1 ∷ r 1 2 1 2 ∷ []) (e 3 2 2 1 1 3)
     -- P11; lines, matches and cause of the end by hand
-    ∷ ex (settings 0 0 false false false Unlimited (Convert 0)) N (1 ∷ 2 ∷ 3 ∷ []) (r 1 0 2 1 ∷ r 1 2 2 2 ∷ r 1 4 2 3 ∷ []) (e 6 3 3 0 1 3)
+    ∷ ex (settings 0 0 false false false None (Convert 0)) N (1 ∷ 2 ∷ 3 ∷ []) (r 1 0 2 1 ∷ r 1 2 2 2 ∷ r 1 4 2 3 ∷ []) (e 6 3 3 0 1 3)
     ∷ []
 
 abbrev pub all : List ℕ
@@ -128,24 +125,24 @@ Further =
     -- lines before the first row: no break, since no row was given
     ex (context 1 0) T (5 ∷ []) (r 2 6 2 4 ∷ r 1 8 2 5 ∷ []) (e 10 5 1 0 0 0)
     -- a limit of 0 stops at opening
-    ∷ ex (settings 0 0 false false false (Most 0) Ignore) T all [] (e 0 0 0 2 0 0)
+    ∷ ex (settings 0 0 false false false (Some 0) Ignore) T all [] (e 0 0 0 2 0 0)
     -- but not under pass-through, where nothing is selected
-    ∷ ex (settings 0 0 false true false (Most 0) Ignore) N all (r 4 0 2 1 ∷ r 4 2 4 2 ∷ []) (e 6 2 0 0 0 0)
+    ∷ ex (settings 0 0 false true false (Some 0) Ignore) N all (r 4 0 2 1 ∷ r 4 2 4 2 ∷ []) (e 6 2 0 0 0 0)
     -- stop-on-nonmatch: lines before the first match do not stop
-    ∷ ex (settings 0 0 false false true Unlimited Ignore) T (2 ∷ []) (r 1 2 2 2 ∷ []) (e 6 3 1 3 0 0)
+    ∷ ex (settings 0 0 false false true None Ignore) T (2 ∷ []) (r 1 2 2 2 ∷ []) (e 6 3 1 3 0 0)
     -- an after-context line past the limit is unselected
-    ∷ ex (settings 0 2 false false true (Most 1) Ignore) T all (r 1 0 2 1 ∷ r 3 2 2 2 ∷ []) (e 4 2 1 3 0 0)
+    ∷ ex (settings 0 2 false false true (Some 1) Ignore) T all (r 1 0 2 1 ∷ r 3 2 2 2 ∷ []) (e 4 2 1 3 0 0)
     -- both stops at once: the limit is the cause
-    ∷ ex (settings 0 1 false false true (Most 1) Ignore) T all (r 1 0 2 1 ∷ r 3 2 2 2 ∷ []) (e 4 2 1 2 0 0)
+    ∷ ex (settings 0 1 false false true (Some 1) Ignore) T all (r 1 0 2 1 ∷ r 3 2 2 2 ∷ []) (e 4 2 1 2 0 0)
     -- the limit is reached and after-left is above 0 where the text ends
-    ∷ ex (settings 0 2 false false false (Most 1) Ignore) T (5 ∷ []) (r 1 8 2 5 ∷ []) (e 10 5 1 0 0 0)
+    ∷ ex (settings 0 2 false false false (Some 1) Ignore) T (5 ∷ []) (r 1 8 2 5 ∷ []) (e 10 5 1 0 0 0)
     -- a stop at the last line before the Quit byte: no binary offset
-    ∷ ex (settings 0 0 false false false (Most 1) (Quit 0)) (97 ∷ 10 ∷ 0 ∷ []) all (r 1 0 2 1 ∷ []) (e 2 1 1 2 0 0)
+    ∷ ex (settings 0 0 false false false (Some 1) (Quit 0)) (97 ∷ 10 ∷ 0 ∷ []) all (r 1 0 2 1 ∷ []) (e 2 1 1 2 0 0)
     -- the replaced byte is not gone through
-    ∷ ex (settings 0 0 false false false (Most 1) (Convert 0)) N all (r 1 0 2 1 ∷ []) (e 2 1 1 2 0 0)
+    ∷ ex (settings 0 0 false false false (Some 1) (Convert 0)) N all (r 1 0 2 1 ∷ []) (e 2 1 1 2 0 0)
     -- both of the last two lines before the second match have a row: neither comes again
     ∷ ex (context 2 1) T (1 ∷ 3 ∷ []) (r 1 0 2 1 ∷ r 3 2 2 2 ∷ r 1 4 2 3 ∷ r 3 6 2 4 ∷ []) (e 10 5 2 0 0 0)
     -- a binary byte that is the terminator: Quit cuts, Convert does nothing
-    ∷ ex (settings 0 0 false false false Unlimited (Quit 10)) T all (r 1 0 1 1 ∷ []) (e 1 1 1 1 1 1)
-    ∷ ex (settings 0 0 false false false Unlimited (Convert 10)) N (2 ∷ []) (r 1 2 4 2 ∷ []) (e 6 2 1 0 0 0)
+    ∷ ex (settings 0 0 false false false None (Quit 10)) T all (r 1 0 1 1 ∷ []) (e 1 1 1 1 1 1)
+    ∷ ex (settings 0 0 false false false None (Convert 10)) N (2 ∷ []) (r 1 2 4 2 ∷ []) (e 6 2 1 0 0 0)
     ∷ []

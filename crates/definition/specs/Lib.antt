@@ -2,6 +2,7 @@
 pub mod Bounds
 pub mod Text
 pub mod Rows
+pub mod Numbers
 pub mod Definition
 pub mod State
 pub mod Laws

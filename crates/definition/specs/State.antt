@@ -1,6 +1,7 @@
 -- The walk of Definition.antt once more, in the form that is easy to reason with: rows and state as two recursions over the lines,
 -- where the state holds the lines since the last line with a row. proofs/Same.antt proves that both give the same rows and end record.
 use Rattle.std.specs.Prelude.{ℕ, ◌+◌, Bool, true, false, cond, not, ◌&&◌, List, [], ◌∷◌, ◌++◌, map, length, ltb}
+use Rattle.definition.specs.declared.Kind.{Kind}
 use Rattle.definition.specs.declared.Row.{Row}
 use Rattle.definition.specs.declared.Fate.{Fate}
 use Rattle.definition.specs.declared.Fate.TheVariants.{Match, After, Other, NoRow}
@@ -9,7 +10,7 @@ use Rattle.definition.specs.declared.Going.TheVariants.{On, LimitMet, NonmatchMe
 use Rattle.definition.specs.declared.Settings.{Settings}
 use Rattle.definition.specs.Bounds.{contextual}
 use Rattle.definition.specs.Definition.{fate, selected, after_left_next, matches_next, is_match, going_next, kept_lines, last_of}
-use Rattle.definition.specs.Rows.{Line, row, break, match_kind, before_kind, after_kind, other_kind}
+use Rattle.definition.specs.Rows.{Line, row, break}
 
 pub record State : Type 0 where
   -- bytes and lines gone through, and matches
@@ -44,9 +45,9 @@ unfoldable pub breaks : Settings → State → List Row
 breaks c s = cond (contextual c && s.given && ltb c.before (length s.since)) (break ∷ []) []
 
 abbrev pub rows_for : Fate → Settings → State → Line → List Row
-rows_for Match c s l = breaks c s ++ (map (row before_kind) (last_of c.before s.since) ++ (row match_kind l ∷ []))
-rows_for After c s l = row after_kind l ∷ []
-rows_for Other c s l = row other_kind l ∷ []
+rows_for Match c s l = breaks c s ++ (map (row Kind.Before) (last_of c.before s.since) ++ (row Kind.Match l ∷ []))
+rows_for After c s l = row Kind.After l ∷ []
+rows_for Other c s l = row Kind.Other l ∷ []
 rows_for NoRow c s l = []
 
 abbrev pub given_next : Fate → Bool → Bool

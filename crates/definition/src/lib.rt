@@ -5,13 +5,6 @@
 ghost use Rattle.std.specs.Prelude.{◌≡◌};
 ghost use Rattle.definition.specs.Bounds.{plain};
 
-// How many matches are wanted at most.
-#[derive(Clone, Copy)]
-pub enum Limit {
-    Unlimited,
-    Most(u64),
-}
-
 // What a byte that marks binary data does to the input.
 #[derive(Clone, Copy)]
 pub enum Binary {
@@ -21,7 +14,7 @@ pub enum Binary {
 }
 
 // Whether a run goes on, and if not, what stopped it.
-#[derive(Clone, Copy)]
+#[derive(Clone, Copy, PartialEq, Eq)]
 pub enum Going {
     On,
     LimitMet,
@@ -29,7 +22,7 @@ pub enum Going {
 }
 
 // What becomes of a line that is gone through.
-#[derive(Clone, Copy)]
+#[derive(Clone, Copy, PartialEq, Eq)]
 pub enum Fate {
     Match,
     After,
@@ -48,7 +41,8 @@ pub struct Settings {
     pub passthru: bool,
     // an unselected line that follows some match stops the run
     pub stop: bool,
-    pub limit: Limit,
+    // how many matches are wanted at most
+    pub limit: Option<u64>,
     pub terminator: u8,
     pub binary: Binary,
 }
@@ -64,28 +58,72 @@ impl Settings {
             invert: false,
             passthru: false,
             stop: false,
-            limit: Limit::Unlimited,
+            limit: None,
             terminator: terminator,
             binary: Binary::Ignore,
         }
     }
 }
 
-// Where a byte was met that the end record tells of, counting from 0.
-#[derive(Clone, Copy)]
-pub enum Place {
-    Nowhere,
-    At(u64),
+// What a row is of.
+#[derive(Clone, Copy, PartialEq, Eq)]
+pub enum Kind {
+    Match,
+    Before,
+    After,
+    Other,
+    Break,
 }
 
-// A row: kind 1 match, 2 before, 3 after, 4 other, 5 break; the line's first byte, counting from 0, its length with
-// terminator, and its number from 1.
+// The number that stands for a kind in a row table.
+impl From<Kind> for u64 {
+    ghost use Rattle.definition.specs.Rows.{kind_number};
+
+    ghost from_gives = { λ kind number. number ≡ kind_number kind };
+
+    fn from(kind: Kind) -> u64 {
+        match kind {
+            Kind::Match => 1,
+            Kind::Before => 2,
+            Kind::After => 3,
+            Kind::Other => 4,
+            Kind::Break => 5,
+        }
+    }
+}
+
+// A row: the line's first byte, counting from 0, its length with terminator, and its number from 1.
 #[derive(Clone, Copy)]
 pub struct Row {
-    pub kind: u64,
+    pub kind: Kind,
     pub offset: u64,
     pub length: u64,
     pub number: u64,
+}
+
+// Why a search ended.
+#[derive(Clone, Copy, PartialEq, Eq)]
+pub enum Cause {
+    InputEnd,
+    QuitByte,
+    Limit,
+    Nonmatch,
+}
+
+// The number that stands for a cause in an end record.
+impl From<Cause> for u64 {
+    ghost use Rattle.definition.specs.Numbers.{cause_number};
+
+    ghost from_gives = { λ cause number. number ≡ cause_number cause };
+
+    fn from(cause: Cause) -> u64 {
+        match cause {
+            Cause::InputEnd => 0,
+            Cause::QuitByte => 1,
+            Cause::Limit => 2,
+            Cause::Nonmatch => 3,
+        }
+    }
 }
 
 // The end record.
@@ -95,11 +133,47 @@ pub struct End {
     pub bytes: u64,
     pub lines: u64,
     pub matches: u64,
-    // 0 end of input, 1 Quit byte, 2 limit, 3 nonmatch
-    pub cause: u64,
-    // the binary offset: 1 and the number, or 0 and 0
-    pub flag: u64,
-    pub offset: u64,
+    pub cause: Cause,
+    // where a byte was met that marks binary data, counting from 0
+    pub binary_offset: Option<u64>,
+}
+
+// Why a call is not served, in the order of the table of refusals.
+#[derive(Clone, Copy, PartialEq, Eq)]
+pub enum Refusal {
+    // settings out of range, or pass-through with context
+    BadSettings,
+    // a window of 0 bytes at opening, or of too many
+    BadWindow,
+    // no line waits, and what is held fills the window
+    WindowFull,
+    // the table has fewer rows than the answer needs
+    TableShort,
+    // the input's size is taken in full
+    SizeTaken,
+    // no line waits that could be answered, or the session does not agree with itself or its window
+    Unsound,
+    // lines or input remain, and no stop has come
+    Unfinished,
+}
+
+// The number of a refusal.
+impl From<Refusal> for u64 {
+    ghost use Rattle.definition.specs.Numbers.{refusal_number};
+
+    ghost from_gives = { λ refusal number. number ≡ refusal_number refusal };
+
+    fn from(refusal: Refusal) -> u64 {
+        match refusal {
+            Refusal::BadSettings => 1,
+            Refusal::BadWindow => 2,
+            Refusal::WindowFull => 3,
+            Refusal::TableShort => 4,
+            Refusal::SizeTaken => 5,
+            Refusal::Unsound => 6,
+            Refusal::Unfinished => 7,
+        }
+    }
 }
 
 // The largest value each may take. specs/Bounds.antt has the same numbers for the contracts, since a definition cannot

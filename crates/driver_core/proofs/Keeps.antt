@@ -1,5 +1,5 @@
 -- Opening and each answered line keep the list of contradictions empty; why a line waits.
-use Rattle.std.specs.Prelude.{◌≡◌, ℕ, ◌+◌, ◌-◌, ◌<◌, ◌≤◌, Bool, true, false, cond, not, ◌&&◌, ◌||◌, eqb, ltb, ◌⊎◌, List, length}
+use Rattle.std.specs.Prelude.{◌≡◌, ℕ, ◌+◌, ◌-◌, ◌<◌, ◌≤◌, Bool, true, false, cond, not, ◌&&◌, ◌||◌, eqb, ltb, ◌⊎◌, List, length, Option, Some, None}
 use mathlib.Core.Path.{refl}
 use mathlib.Core.Bool.{and-eq-true_iff, false≢true, or-true}
 use mathlib.Core.Logic.{inl, inr, ⊎_elim}
@@ -9,8 +9,6 @@ use Rattle.definition.specs.declared.Fate.{Fate}
 use Rattle.definition.specs.declared.Fate.TheVariants.{Match, After, Other, NoRow}
 use Rattle.definition.specs.declared.Going.{Going}
 use Rattle.definition.specs.declared.Going.TheVariants.{On, LimitMet, NonmatchMet}
-use Rattle.definition.specs.declared.Limit.{Limit}
-use Rattle.definition.specs.declared.Limit.TheVariants.{Unlimited, Most}
 use Rattle.definition.specs.declared.Settings.{Settings}
 use Rattle.definition.specs.Bounds.{allowed, max_input}
 use Rattle.definition.specs.Definition.{limit_reached, selected}
@@ -42,9 +40,9 @@ agree_fewer k since ahead n m a h size =
     go false true j e = eq-eqb n 0 (omega (arith, eqb-true since 0 j))
     go false false j e = absurd (false≢true e)
 
-within_none : (l : Limit) → within_limit l 0 ≡ true
-within_none Unlimited = refl
-within_none (Most n) = le-leb 0 n (omega arith)
+within_none : (l : Option ℕ) → within_limit l 0 ≡ true
+within_none None = refl
+within_none (Some n) = le-leb 0 n (omega arith)
 
 pub agree_start : (c : Settings) (ahead : ℕ) → allowed c ≡ true → ahead ≤ max_input → WalkAgree (walk_start c) 0 ahead
 agree_start c ahead h k =
@@ -59,9 +57,9 @@ agree_start c ahead h k =
       owed = refl;
     }
 
-within_next : (l : Limit) (m : ℕ) → limit_reached l m ≡ false → within_limit l (m + 1) ≡ true
-within_next Unlimited m e = refl
-within_next (Most n) m e = le-leb (m + 1) n (omega (arith, leb-false n m e))
+within_next : (l : Option ℕ) (m : ℕ) → limit_reached l m ≡ false → within_limit l (m + 1) ≡ true
+within_next None m e = refl
+within_next (Some n) m e = le-leb (m + 1) n (omega (arith, leb-false n m e))
 
 -- the bytes since the last line with a row, once a line of some length is gone through
 abbrev pub since_now : Bool → ℕ → ℕ → ℕ

@@ -1,5 +1,5 @@
 -- Laws of a walk: its numbers as tests and as facts, the waiting line, and one step.
-use Rattle.std.specs.Prelude.{◌≡◌, ℕ, ◌+◌, ◌≤◌, Bool, true, false, cond, not, ◌&&◌, leb, List, [], ◌∷◌}
+use Rattle.std.specs.Prelude.{◌≡◌, ℕ, ◌+◌, ◌≤◌, Bool, true, false, cond, not, ◌&&◌, leb, List, [], ◌∷◌, Some, None}
 use mathlib.Core.Path.{refl}
 use mathlib.Core.Bool.{and-eq-true_iff}
 use native.Mathlib.Omega.{arith}
@@ -8,7 +8,6 @@ use Rattle.definition.specs.declared.Settings.{Settings}
 use Rattle.definition.specs.Bounds.{allowed, contextual, limit_in_range, max_context, max_input}
 use Rattle.definition.specs.State.{fate_of, state_next}
 use Rattle.definition.specs.Text.{first_length}
-use Rattle.driver_core.specs.declared.LineAhead.TheVariants.{Line, NoLine}
 use Rattle.driver_core.specs.declared.Walk.{Walk}
 use Rattle.driver_core.specs.Answer.{state_since, walk_next}
 use Rattle.driver_core.specs.Step.{walk_step}
@@ -95,22 +94,22 @@ before_allowed c h =
 -- # The waiting line
 
 -- what the answer says
-pub waits_line : (k : Walk) (more : Bool) (ahead : List ℕ) (n : ℕ) → Line n ≡ line_ahead k more ahead
+pub waits_line : (k : Walk) (more : Bool) (ahead : List ℕ) (n : ℕ) → Some n ≡ line_ahead k more ahead
     → (waits_ahead k more ahead ≡ true) × (n ≡ first_length k.settings.terminator ahead)
 unfolding line_ahead
 waits_line k more ahead n h = go (waits_ahead k more ahead) (first_length k.settings.terminator ahead) h
   where
-    go : (b : Bool) (m : ℕ) → Line n ≡ cond b (Line m) NoLine → (b ≡ true) × (n ≡ m)
+    go : (b : Bool) (m : ℕ) → Some n ≡ cond b (Some m) None → (b ≡ true) × (n ≡ m)
     go true m h = (refl, cc)
     go false m h =
         let z : ◌≡◌ {A = ℕ} 0 1 = cc in
         absurd (omega arith)
 
-pub waits_none : (k : Walk) (more : Bool) (ahead : List ℕ) → NoLine ≡ line_ahead k more ahead → waits_ahead k more ahead ≡ false
+pub waits_none : (k : Walk) (more : Bool) (ahead : List ℕ) → None ≡ line_ahead k more ahead → waits_ahead k more ahead ≡ false
 unfolding line_ahead
 waits_none k more ahead h = go (waits_ahead k more ahead) (first_length k.settings.terminator ahead) h
   where
-    go : (b : Bool) (m : ℕ) → NoLine ≡ cond b (Line m) NoLine → b ≡ false
+    go : (b : Bool) (m : ℕ) → None ≡ cond b (Some m) None → b ≡ false
     go true m h =
         let z : ◌≡◌ {A = ℕ} 0 1 = cc in
         absurd (omega arith)

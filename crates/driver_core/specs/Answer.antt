@@ -1,10 +1,12 @@
 -- One line answered: the rows of the definition's own step, at the state that a walk and the bytes since the last line with a row show,
 -- wherever these lie; what is refused; the walk after it, and every number of the row table.
-use Rattle.std.specs.Prelude.{ℕ, ◌+◌, ◌-◌, ◌*◌, Bool, true, false, cond, List, [], ◌∷◌, ◌++◌, map, length, drop, nat_lt}
+use Rattle.std.specs.Prelude.{ℕ, ◌+◌, ◌-◌, ◌*◌, Bool, true, false, cond, List, [], ◌∷◌, ◌++◌, map, length, drop, nat_lt, Result, Ok, Err}
 use mathlib.Core.List.{flatten}
 use Rattle.definition.specs.declared.Fate.{Fate}
 use Rattle.definition.specs.declared.Fate.TheVariants.{Match, After, Other, NoRow}
 use Rattle.definition.specs.declared.Going.TheVariants.{On}
+use Rattle.definition.specs.declared.Refusal.{Refusal}
+use Rattle.definition.specs.declared.Refusal.TheVariants.{TableShort, Unsound}
 use Rattle.definition.specs.declared.Row.{Row}
 use Rattle.definition.specs.declared.Settings.{Settings}
 use Rattle.definition.specs.Definition.{last_of}
@@ -57,16 +59,16 @@ unfoldable pub below_one_since : Walk → List ℕ → Bool → Bool
 below_one_since k since hit =
     nat_lt k.lines (before_rows (fate_of k.settings (state_since k since) hit) k.settings (state_since k since))
 
--- what an answer does: refuse by a number, or give rows
+-- what an answer does: refuse, or give rows
 pub data AnswerDecision : Type 0 where
-  AnswerRefused : ℕ → AnswerDecision
+  AnswerRefused : Refusal → AnswerDecision
   Give : AnswerDecision
 
 -- "6 before 4": "the table has fewer whole rows than this answer needs"
 unfoldable pub answering_since : Walk → List ℕ → ℕ → ℕ → Bool → AnswerDecision
 answering_since k since len table hit =
-    cond (below_one_since k since hit) (AnswerRefused 6)
-    (cond (nat_lt table (row_size * length (rows_since k since len hit))) (AnswerRefused 4)
+    cond (below_one_since k since hit) (AnswerRefused Unsound)
+    (cond (nat_lt table (row_size * length (rows_since k since len hit))) (AnswerRefused TableShort)
     Give)
 
 -- # What is given
@@ -98,21 +100,17 @@ walk_next k since len hit = walk_of k.settings (step_state On k.settings (state_
 unfoldable pub put_rows : List Row → List ℕ → List ℕ
 put_rows rows table = flatten (map flat rows) ++ drop (row_size * length rows) table
 
-abbrev pub given_by : AnswerDecision → Walk → List ℕ → ℕ → Bool → Given
-given_by (AnswerRefused n) k since len hit = record { refusal = n; rows = 0; fate = NoRow }
+abbrev pub given_by : AnswerDecision → Walk → List ℕ → ℕ → Bool → Result Given Refusal
+given_by (AnswerRefused n) k since len hit = Err n
 given_by Give k since len hit =
-    record {
-      refusal = 0;
-      rows = length (rows_since k since len hit);
-      fate = fate_of k.settings (state_since k since) hit;
-    }
+    Ok (record { rows = length (rows_since k since len hit); fate = fate_of k.settings (state_since k since) hit })
 
 abbrev pub given_table_by : AnswerDecision → Walk → List ℕ → ℕ → List ℕ → Bool → List ℕ
 given_table_by (AnswerRefused n) k since len table hit = table
 given_table_by Give k since len table hit = put_rows (rows_since k since len hit) table
 
 -- the bytes since the last line with a row, the line's length, the table, yes or no
-unfoldable pub given : Walk → List ℕ → ℕ → List ℕ → Bool → Given
+unfoldable pub given : Walk → List ℕ → ℕ → List ℕ → Bool → Result Given Refusal
 given k since len table hit = given_by (answering_since k since len (length table) hit) k since len hit
 
 unfoldable pub given_table : Walk → List ℕ → ℕ → List ℕ → Bool → List ℕ

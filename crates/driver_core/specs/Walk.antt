@@ -1,19 +1,15 @@
 -- How far a search has come through its lines, as the struct `Walk`: which of its numbers contradict each other, whether a line waits
 -- ahead of it, and what it leaves for the end record. The bytes since the last line with a row, and the bytes ahead, are lent, wherever
 -- they lie.
-use Rattle.std.specs.Prelude.{◌≡◌, ℕ, ◌+◌, ◌≤◌, Bool, true, false, cond, not, ◌&&◌, ◌||◌, List, [], ◌∷◌, length, take, ◌==◌, nat_le, nat_lt}
+use Rattle.std.specs.Prelude.{◌≡◌, ℕ, ◌+◌, ◌≤◌, Bool, true, false, cond, not, ◌&&◌, ◌||◌, List, [], ◌∷◌, length, take, ◌==◌, nat_le, nat_lt, Option, Some, None}
+use Rattle.definition.specs.declared.Cause.{Cause}
 use Rattle.definition.specs.declared.End.{End}
 use Rattle.definition.specs.declared.Going.{Going}
 use Rattle.definition.specs.declared.Going.TheVariants.{On, LimitMet, NonmatchMet}
-use Rattle.definition.specs.declared.Limit.{Limit}
-use Rattle.definition.specs.declared.Limit.TheVariants.{Unlimited, Most}
-use Rattle.definition.specs.declared.Place.{Place}
 use Rattle.definition.specs.declared.Settings.{Settings}
 use Rattle.definition.specs.Bounds.{allowed, max_input}
 use Rattle.definition.specs.Definition.{end_with, going_next}
 use Rattle.definition.specs.Text.{first_length, first_place, handed}
-use Rattle.driver_core.specs.declared.LineAhead.{LineAhead}
-use Rattle.driver_core.specs.declared.LineAhead.TheVariants.{Line, NoLine}
 use Rattle.driver_core.specs.declared.Walk.{Walk}
 
 -- before any line: "(a limit of 0: at opening)"
@@ -36,9 +32,9 @@ is_on NonmatchMet = false
 
 -- # Numbers that contradict each other
 
-abbrev pub within_limit : Limit → ℕ → Bool
-within_limit Unlimited matches = true
-within_limit (Most n) matches = nat_le matches n
+abbrev pub within_limit : Option ℕ → ℕ → Bool
+within_limit None matches = true
+within_limit (Some n) matches = nat_le matches n
 
 -- The list: each test fails where numbers contradict each other, or how many bytes lie since the last line with a row and ahead.
 unfoldable pub walk_tests : Walk → ℕ → ℕ → List Bool
@@ -82,8 +78,8 @@ waits_ahead k more ahead =
     || (not more && nat_lt 0 (length ahead)))
 
 -- the line that waits, with its length
-unfoldable pub line_ahead : Walk → Bool → List ℕ → LineAhead
-line_ahead k more ahead = cond (waits_ahead k more ahead) (Line (first_length k.settings.terminator ahead)) NoLine
+unfoldable pub line_ahead : Walk → Bool → List ℕ → Option ℕ
+line_ahead k more ahead = cond (waits_ahead k more ahead) (Some (first_length k.settings.terminator ahead)) None
 
 -- "The waiting line is shown .. without its terminator": a part of the bytes ahead, from their front; empty where none waits
 unfoldable pub shown_ahead : Walk → Bool → List ℕ → List ℕ
@@ -97,5 +93,5 @@ unfoldable pub remains_ahead : Walk → Bool → ℕ → Bool
 remains_ahead k more ahead = is_on k.going && (more || nat_lt 0 ahead)
 
 -- what was gone through, with a cause and a place
-unfoldable pub walk_end : Walk → ℕ → Place → End
+unfoldable pub walk_end : Walk → Cause → Option ℕ → End
 walk_end k cause place = end_with k.bytes k.lines k.matches cause place

@@ -20,18 +20,9 @@ pub struct Walk {
     pub going: Going,
 }
 
-// The waiting line, by its length with terminator.
-#[derive(Clone, Copy)]
-pub enum LineAhead {
-    Line(usize),
-    NoLine,
-}
-
-// What the answer to a line gives: a refusal or 0, how many rows were written, and what became of the line.
+// What the answer to a line gives: how many rows were written, and what became of the line.
 #[derive(Clone, Copy)]
 pub struct Given {
-    pub refusal: u64,
     pub rows: usize,
-    // NoRow where refused
     pub fate: Fate,
 }

@@ -1,2 +1,2 @@
--- Laws of what is fed.
+-- What is proved of feeding.
 pub mod Laws

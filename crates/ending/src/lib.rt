@@ -1,156 +1,98 @@
 // The end of a search: the end of the input told, and the end record.
 #![tactic(auto)]
 
-ghost use Rattle.std.specs.Prelude.{◌≡◌, cond};
-ghost use Rattle.session.specs.Calls.{end_input, gone_through, input_told, is_quit, no_record, record_of, recorded, recorded_place, told, told_session};
+ghost use Rattle.std.specs.Prelude.{◌≡◌};
+ghost use Rattle.session.specs.Calls.{gone_through, input_told, is_quit, record_of, record_result, recorded_place, tell_result, told_session};
 ghost use Rattle.session.specs.Sound.{Agree};
 
-use definition::{Binary, End, Going, Place};
-use session::{Input, Places, Recorded, Session, TellOutcome};
+use definition::{Binary, Cause, End, Going, Refusal};
+use session::{Input, Places, Refused, Session};
 
-// Tells the end of the input; refusal 6.
-pub fn tell_end(s: Session) -> TellOutcome
-    ensures { result ≡ told s }
+// Tells the end of the input. Refused, it hands back the session as it was.
+#[tactic(auto, unfolding(session::specs::Calls::tell_result, session::specs::Calls::telling))]
+pub fn tell_end(s: Session) -> Result<Session, Refused<Session>>
+    ensures { result ≡ tell_result s }
 {
     if !held::agree(s) {
-        return TellOutcome {
-            refusal: 6,
-            session: s,
-        };
+        return Err(Refused {
+            refusal: Refusal::Unsound,
+            next: s,
+        });
     }
-    let next = told_session(s);
-    TellOutcome {
-        refusal: 0,
-        session: next,
-    }
+    Ok(told_session(s))
 }
 
+#[tactic(auto, unfolding(session::specs::Calls::told_session))]
 fn told_session(s: Session) -> Session
     ensures { result ≡ told_session s }
 {
-    let walk = s.walk;
     let p = s.places;
-    let going = walk.going;
-    let input = p.input;
-    let told = input_told(going, input);
-    let places = Places { input: told, ..p };
     Session {
-        walk: walk,
-        places: places,
+        places: Places {
+            input: input_told(s.walk.going, p.input),
+            ..p
+        },
+        ..s
     }
 }
 
+// Only an open input ends, and only before a stop.
 fn input_told(going: Going, input: Input) -> Input
     ensures { result ≡ input_told going input }
 {
-    match going {
-        Going::On => end_input(input),
-        Going::LimitMet => input,
-        Going::NonmatchMet => input,
+    match (going, input) {
+        (Going::On, Input::Open) => Input::Ended,
+        _ => input,
     }
 }
 
-fn end_input(input: Input) -> Input
-    ensures { result ≡ end_input input }
-{
-    match input {
-        Input::Open => Input::Ended,
-        Input::Ended => Input::Ended,
-        Input::QuitFound => Input::QuitFound,
-    }
-}
-
-// The end record, once nothing remains; refusals 6 and 7.
-pub fn end_record(s: Session) -> Recorded
-    ensures { result ≡ recorded s }
+// The end record, once nothing remains.
+#[tactic(auto, unfolding(session::specs::Calls::record_result, session::specs::Calls::recording, session::specs::Calls::remains))]
+pub fn end_record(s: Session) -> Result<End, Refusal>
+    ensures { result ≡ record_result s }
 {
     if !held::agree(s) {
-        return unrecorded(6);
+        return Err(Refusal::Unsound);
     }
-    let walk = s.walk;
     let p = s.places;
-    let input = p.input;
-    if ahead::is_unfinished(walk, held::is_open(input), p.end - p.next) {
-        return unrecorded(7);
+    if ahead::is_unfinished(s.walk, held::is_open(p.input), p.end - p.next) {
+        return Err(Refusal::Unfinished);
     }
-    let end = record_of(s);
-    Recorded {
-        refusal: 0,
-        end: end,
-    }
+    Ok(record_of(s))
 }
 
-fn unrecorded(refusal: u64) -> Recorded
-    ensures { result ≡ record { refusal = refusal; end = no_record } }
-{
-    let end = End {
-        bytes: 0,
-        lines: 0,
-        matches: 0,
-        cause: 0,
-        flag: 0,
-        offset: 0,
-    };
-    Recorded {
-        refusal: refusal,
-        end: end,
-    }
-}
-
+#[tactic(auto, unfolding(session::specs::Calls::record_of))]
 fn record_of(s: Session) -> End
     requires { Agree s }
     ensures { result ≡ record_of s }
 {
-    let walk = s.walk;
-    let p = s.places;
-    let input = p.input;
-    let cause = ahead::cause_of(walk, is_quit(input));
-    let place = recorded_place(s, cause);
-    ahead::end_with(walk, cause, place)
+    let cause = ahead::cause_of(s.walk, is_quit(s.places.input));
+    ahead::end_with(s.walk, cause, recorded_place(s, cause))
 }
 
 fn is_quit(input: Input) -> bool
     ensures { result ≡ is_quit input }
 {
-    match input {
-        Input::Open => false,
-        Input::Ended => false,
-        Input::QuitFound => true,
-    }
+    input == Input::QuitFound
 }
 
-// The Quit byte's place under cause 1, or the first replaced byte under Convert, if it is gone through.
-fn recorded_place(s: Session, cause: u64) -> Place
+// The Quit byte's place where it is the cause, or the first replaced byte under Convert, if it is gone through.
+#[tactic(auto, unfolding(session::specs::Calls::recorded_place))]
+fn recorded_place(s: Session, cause: Cause) -> Option<u64>
     requires { Agree s }
     ensures { result ≡ recorded_place s cause }
 {
-    if cause == 1 {
-        let taken = held::taken_bytes(s);
-        return Place::At(taken);
+    if cause == Cause::QuitByte {
+        return Some(held::taken_bytes(s));
     }
-    let walk = s.walk;
-    let c = walk.settings;
-    let p = s.places;
-    let binary = c.binary;
-    let place = p.replaced;
-    match binary {
-        Binary::Ignore => Place::Nowhere,
-        Binary::Quit(_) => Place::Nowhere,
-        Binary::Convert(_) => gone_through(place, walk.bytes),
+    match s.walk.settings.binary {
+        Binary::Ignore | Binary::Quit(_) => None,
+        Binary::Convert(_) => gone_through(s.places.replaced, s.walk.bytes),
     }
 }
 
-fn gone_through(place: Place, bytes: u64) -> Place
+fn gone_through(place: Option<u64>, bytes: u64) -> Option<u64>
     ensures { result ≡ gone_through place bytes }
 {
-    match place {
-        Place::Nowhere => Place::Nowhere,
-        Place::At(p) => only_if(p < bytes, p),
-    }
-}
-
-fn only_if(b: bool, p: u64) -> Place
-    ensures { result ≡ cond b (Place.At p) Place.Nowhere }
-{
-    if b { Place::At(p) } else { Place::Nowhere }
+    place.filter(|p| *p < bytes)
 }

@@ -1,97 +1,54 @@
-// The first line of an input, `before after invert pass limit`, and limits.
+// The first line of an input, `before after invert pass limit`, and its flags and limits.
 #![tactic(auto)]
 
 ghost use Rattle.std.specs.Prelude.{◌≡◌};
-ghost use Rattle.forms.specs.First.{are_right, asked_by, asked_of, settings_of};
-ghost use Rattle.forms.specs.Limits.{limit_of};
+ghost use Rattle.forms.specs.First.{asked_of};
+ghost use Rattle.forms.specs.Limits.{flag_of, limit_of};
 
-use definition::{Limit, Settings};
-use line_words::Number;
+use definition::Settings;
 
-// What a word says as a limit.
-#[derive(Clone, Copy)]
-pub enum Bound {
-    Is(Limit),
-    NoBound,
-}
-
-// What a line asks for: a search with these settings, or it has another form.
-#[derive(Clone, Copy)]
-pub enum Asked {
-    For(Settings),
-    OtherForm,
-}
-
-// `before after invert pass limit`. Whether the values are in range is the opening's to say.
-pub fn first_line(line: &[u8]) -> Asked
+// `before after invert pass limit`: a newline for terminator, no binary and no stop on a nonmatch. Whether the values are
+// in range is the opening's to say.
+#[tactic(auto, unfolding(crate::specs::First::asked_of))]
+pub fn first_line(line: &[u8]) -> Option<Settings>
     ensures { result ≡ asked_of line.now }
 {
-    let before = line_words::number_at(line, 0);
-    let after = line_words::number_at(line, 1);
-    let invert = line_words::number_at(line, 2);
-    let pass = line_words::number_at(line, 3);
-    let most = limit(line_words::word(line, 4));
-    let five = line_words::spaces(line) == 4;
-    asking(five, before, after, invert, pass, most)
-}
-
-fn asking(
-    five: bool,
-    before: Number,
-    after: Number,
-    invert: Number,
-    pass: Number,
-    most: Bound,
-) -> Asked
-    ensures { result ≡ asked_by five before after invert pass most }
-{
-    if !are_right(five, before, after, invert, pass) {
-        return Asked::OtherForm;
+    if line_words::spaces(line) != 4 {
+        return None;
     }
-    match most {
-        Bound::Is(limit) => Asked::For(settings_for(before, after, invert, pass, limit)),
-        Bound::NoBound => Asked::OtherForm,
-    }
+    let before = line_words::number_at(line, 0)?;
+    let after = line_words::number_at(line, 1)?;
+    let invert = flag(line_words::number_at(line, 2)?)?;
+    let passthru = flag(line_words::number_at(line, 3)?)?;
+    let limit = limit(line_words::word(line, 4))?;
+    Some(Settings {
+        before: before as usize,
+        after: after as usize,
+        invert,
+        passthru,
+        limit,
+        ..Settings::plain(b'\n')
+    })
 }
 
-fn are_right(five: bool, before: Number, after: Number, invert: Number, pass: Number) -> bool
-    ensures { result ≡ are_right five before after invert pass }
+// A flag: 0 or 1.
+pub fn flag(number: u64) -> Option<bool>
+    ensures { result ≡ flag_of number }
 {
-    let numbers = line_words::is_number(before) & line_words::is_number(after);
-    let flags = line_words::is_within(invert, 1) & line_words::is_within(pass, 1);
-    five & (numbers & flags)
-}
-
-// A newline for terminator, no binary and no stop on a nonmatch.
-fn settings_for(
-    before: Number,
-    after: Number,
-    invert: Number,
-    pass: Number,
-    limit: Limit,
-) -> Settings
-    ensures { result ≡ settings_of before after invert pass limit }
-{
-    let plain = Settings::plain(b'\n');
-    Settings {
-        before: line_words::value(before) as usize,
-        after: line_words::value(after) as usize,
-        invert: line_words::value(invert) == 1,
-        passthru: line_words::value(pass) == 1,
-        limit: limit,
-        ..plain
+    match number {
+        0 => Some(false),
+        1 => Some(true),
+        _ => None,
     }
 }
 
 // A limit: a number, or `-` for none.
-pub fn limit(word: &[u8]) -> Bound
+#[tactic(auto, unfolding(crate::specs::Limits::limit_of))]
+pub fn limit(word: &[u8]) -> Option<Option<u64>>
     ensures { result ≡ limit_of word.now }
 {
     if line_words::is_dash(word) {
-        return Bound::Is(Limit::Unlimited);
+        return Some(None);
     }
-    match line_words::decimal(word) {
-        Number::Value(n) => Bound::Is(Limit::Most(n)),
-        Number::NoNumber => Bound::NoBound,
-    }
+    Some(Some(line_words::decimal(word)?))
 }

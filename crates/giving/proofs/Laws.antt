@@ -1,13 +1,15 @@
 -- Laws of one line answered: by what becomes of it, and the rows of a match one after the other.
-use Rattle.std.proofs.Common.{◌≡◌, ℕ, ◌+◌, ◌-◌, ◌*◌, ◌<◌, ◌≤◌, Bool, true, false, cond, ◌&&◌, ltb, List, [], ◌∷◌, ◌++◌, map, length, drop, sym, refl, ap, ◌∙◌, append_assoc, append-nil, arith, length-append, le-ltb, lt-ltb}
+use Rattle.std.proofs.Common.{◌≡◌, ℕ, ◌+◌, ◌-◌, ◌*◌, ◌<◌, ◌≤◌, Bool, true, false, cond, ◌&&◌, ltb, List, [], ◌∷◌, ◌++◌, map, length, drop, Ok, Err, sym, refl, ap, ◌∙◌, append_assoc, append-nil, arith, length-append, le-ltb, lt-ltb}
 use mathlib.Core.List.{flatten}
 use lib.ListN.{length-map}
+use Rattle.definition.specs.declared.Refusal.TheVariants.{TableShort, Unsound}
+use Rattle.definition.specs.declared.Kind.{Kind}
 use Rattle.definition.specs.declared.Fate.{Fate}
 use Rattle.definition.specs.declared.Fate.TheVariants.{Match, After, Other, NoRow}
 use Rattle.definition.specs.declared.Row.{Row}
 use Rattle.definition.specs.Bounds.{contextual}
 use Rattle.definition.specs.Definition.{last_of}
-use Rattle.definition.specs.Rows.{after_kind, before_kind, break, flat, match_kind, other_kind, placed, row, row_size}
+use Rattle.definition.specs.Rows.{break, flat, placed, row, row_size}
 use Rattle.definition.specs.State.{breaks, fate_of, next_line}
 use Rattle.definition.specs.Text.{lines, part, put_at}
 use Rattle.definition.proofs.Lists.{length_put_at, put_at_append, put_at_none}
@@ -16,8 +18,8 @@ use Rattle.driver_core.specs.declared.Walk.{Walk}
 use Rattle.driver_core.specs.Answer.{AnswerDecision, AnswerRefused, Give, answering_since, before_rows, below_one_since, given, given_by, given_table, given_table_by, put_rows, rows_since, state_since}
 use Rattle.driver_core.proofs.Back.{back_from_last, back_from_placed, length_back_from}
 use Rattle.match_rows.specs.MatchTable.{before_of, break_table, gap_before, line_row, match_table}
-use Rattle.match_rows.proofs.Laws.{before_lines, from_le, lines_size, over}
-use Rattle.giving.specs.Fated.{fated_decision, fated_given, fated_given_by, fated_rows, fated_table, fated_table_by, line_given, line_table, refused_by, served_by}
+use Rattle.match_rows.proofs.Laws.{before_lines, from_le, over}
+use Rattle.giving.specs.Fated.{fated_decision, fated_given, fated_rows, fated_table, fated_table_by, line_rows, line_table, rows_given, rows_given_by, with_fate, line_given}
 
 -- # By what becomes of the line
 
@@ -33,7 +35,7 @@ module _ (k : Walk) (since : List ℕ) (len : ℕ) (hit : Bool) where
   unfolding answering_since fated_decision below_one_since rows_since fated_rows
   decision_is table = refl
 
-  given_by_lem : (o : AnswerDecision) → given_by o k since len hit ≡ fated_given_by o fate_here k since len
+  given_by_lem : (o : AnswerDecision) → given_by o k since len hit ≡ with_fate fate_here (rows_given_by o fate_here k since len)
   given_by_lem (AnswerRefused n) = refl
   given_by_lem Give = rw rows_are
 
@@ -42,14 +44,15 @@ module _ (k : Walk) (since : List ℕ) (len : ℕ) (hit : Bool) where
   table_by Give table = ap (λ rows. put_rows rows table) rows_are
 
   -- by its fate, once that is known
-  pub given_as : (f : Fate) (table : List ℕ) → fate_here ≡ f
-      → (fated_given f k since len (length table) ≡ given k since len table hit) × (fated_table f k since len table ≡ given_table k since len table hit)
-  unfolding given given_table fated_given fated_table
+  pub given_as : (f : Fate) (table : List ℕ) → f ≡ fate_here
+      → (given k since len table hit ≡ fated_given f k since len (length table)) × (given_table k since len table hit ≡ fated_table f k since len table)
+  unfolding given given_table rows_given fated_table
   given_as f table h = (
-    sym (given_by_lem (answering_since k since len (length table) hit) ∙ ap (λ o. fated_given_by o fate_here k since len) (decision_is (length table))
-        ∙ ap (λ g. fated_given g k since len (length table)) h),
-    sym (table_by (answering_since k since len (length table) hit) table ∙ ap (λ o. fated_table_by o fate_here k since len table) (decision_is (length table))
-        ∙ ap (λ g. fated_table g k since len table) h),
+    given_by_lem (answering_since k since len (length table) hit)
+        ∙ ap (λ o. with_fate fate_here (rows_given_by o fate_here k since len)) (decision_is (length table))
+        ∙ ap (λ g. fated_given g k since len (length table)) (sym h),
+    table_by (answering_since k since len (length table) hit) table ∙ ap (λ o. fated_table_by o fate_here k since len table) (decision_is (length table))
+        ∙ ap (λ g. fated_table g k since len table) (sym h),
   )
 
 -- # A line with one row, and one with none
@@ -79,45 +82,48 @@ one_flat : (r : Row) → flatten (map flat (r ∷ [])) ≡ flat r
 unfolding flatten
 one_flat r = append-nil (flat r)
 
-module _ (f : Fate) (kind : ℕ) (k : Walk) (since : List ℕ) (len : ℕ)
+module _ (f : Fate) (kind : Kind) (k : Walk) (since : List ℕ) (len : ℕ)
     (none : before_rows f k.settings (state_since k since) ≡ 0)
     (one : fated_rows f k since len ≡ line_row kind k len ∷ []) where
-  line_decision : (table : ℕ) → fated_decision f k since len table ≡ cond (ltb table row_size) (AnswerRefused 4) Give
+  line_decision : (table : ℕ) → fated_decision f k since len table ≡ cond (ltb table row_size) (AnswerRefused TableShort) Give
   unfolding fated_decision
   line_decision table = rw (none, le-ltb k.lines 0 (omega arith), one)
 
-  pub line_given_lem : (table : ℕ) → line_given f table ≡ fated_given f k since len table
-  unfolding line_given fated_given
-  line_given_lem table = rw (line_decision table) (go (ltb table row_size))
+  pub line_rows_lem : (table : ℕ) → line_rows table ≡ rows_given f k since len table
+  unfolding rows_given
+  line_rows_lem table = rw (line_decision table) (go (ltb table row_size))
     where
-      go : (b : Bool) → cond b (refused_by 4) (served_by f 1) ≡ fated_given_by (cond b (AnswerRefused 4) Give) f k since len
+      go : (b : Bool) → cond b (Err TableShort) (Ok 1) ≡ rows_given_by (cond b (AnswerRefused TableShort) Give) f k since len
       go true = refl
-      go false = ap (λ rows. served_by f (length rows)) (sym one)
+      go false = ap (λ rows. Ok (length rows)) (sym one)
+
+  pub line_given_lem : (table : ℕ) → line_given f table ≡ fated_given f k since len table
+  line_given_lem table = ap (with_fate f) (line_rows_lem table)
 
   pub line_table_lem : (table : List ℕ) → line_table (line_row kind k len) table ≡ fated_table f k since len table
-  unfolding line_table fated_table
+  unfolding fated_table
   line_table_lem table = rw (line_decision (length table)) (go (ltb (length table) row_size))
     where
-      go : (b : Bool) → cond b table (put_at 0 (flat (line_row kind k len)) table) ≡ fated_table_by (cond b (AnswerRefused 4) Give) f k since len table
+      go : (b : Bool) → cond b table (put_at 0 (flat (line_row kind k len)) table) ≡ fated_table_by (cond b (AnswerRefused TableShort) Give) f k since len table
       go true = refl
       go false =
           sym (ap (λ rows. put_rows rows table) one ∙ put_rows_lem (line_row kind k len ∷ []) table
           ∙ ap (λ xs. put_at 0 xs table) (one_flat (line_row kind k len)))
 
-pub after_row : (k : Walk) (since : List ℕ) (len : ℕ) → fated_rows After k since len ≡ line_row after_kind k len ∷ []
-unfolding fated_rows line_row next_line state_since
+pub after_row : (k : Walk) (since : List ℕ) (len : ℕ) → fated_rows After k since len ≡ line_row Kind.After k len ∷ []
+unfolding fated_rows next_line state_since
 after_row k since len = refl
 
-pub other_row : (k : Walk) (since : List ℕ) (len : ℕ) → fated_rows Other k since len ≡ line_row other_kind k len ∷ []
-unfolding fated_rows line_row next_line state_since
+pub other_row : (k : Walk) (since : List ℕ) (len : ℕ) → fated_rows Other k since len ≡ line_row Kind.Other k len ∷ []
+unfolding fated_rows next_line state_since
 other_row k since len = refl
 
 none_decision : (k : Walk) (since : List ℕ) (len table : ℕ) → fated_decision NoRow k since len table ≡ Give
 unfolding fated_decision fated_rows
 none_decision k since len table = rw (le-ltb k.lines 0 (omega arith), le-ltb table 0 (omega arith))
 
-pub none_given : (k : Walk) (since : List ℕ) (len table : ℕ) → served_by NoRow 0 ≡ fated_given NoRow k since len table
-unfolding fated_given fated_rows
+pub none_given : (k : Walk) (since : List ℕ) (len table : ℕ) → Ok 0 ≡ rows_given NoRow k since len table
+unfolding rows_given fated_rows
 none_given k since len table = rw (none_decision k since len table)
 
 pub none_table : (k : Walk) (since : List ℕ) (len : ℕ) (table : List ℕ) → table ≡ fated_table NoRow k since len table
@@ -151,7 +157,7 @@ module _ (k : Walk) (since : List ℕ) where
   count = (before_of k since).lines
 
   count_is : before_rows Match k.settings (state_since k since) ≡ count
-  unfolding before_of state_since
+  unfolding state_since
   count_is = ap length (back_from_last k.settings.before k.bytes (k.lines + 1) all) ∙ length_back_from k.bytes (k.lines + 1) before
 
   abbrev gaps : List Row
@@ -172,18 +178,18 @@ module _ (k : Walk) (since : List ℕ) where
   gap_test = ap (λ b. contextual k.settings && k.given && b) (over k since ∙ ap (ltb k.settings.before) (sym (length_back_from k.bytes (k.lines + 1) all)))
 
   gap_count : gap_before k from ≡ length gaps
-  unfolding gap_before breaks
+  unfolding breaks
   gap_count = rw gap_test (gap_cases gapped []).0
 
   gap_table : (table : List ℕ) → break_table (gap_before k from) table ≡ put_at 0 (flatten (map flat gaps)) table
-  unfolding break_table gap_before breaks
+  unfolding breaks
   gap_table table = rw gap_test (gap_cases gapped table).1
 
   abbrev befores : List Row
-  befores = map (row before_kind) (last_of k.settings.before (state_since k since).since)
+  befores = map (row Kind.Before) (last_of k.settings.before (state_since k since).since)
 
   befores_count : length befores ≡ count
-  befores_count = length-map (last_of k.settings.before (state_since k since).since) (row before_kind) ∙ count_is
+  befores_count = length-map (last_of k.settings.before (state_since k since).since) (row Kind.Before) ∙ count_is
 
   -- where the numbers stay at 0 or above, lines numbered back are lines numbered on from the first of them
   befores_numbers : length since ≤ k.bytes → count ≤ k.lines
@@ -191,17 +197,17 @@ module _ (k : Walk) (since : List ℕ) where
       ≡ before_numbers k.settings.terminator (k.bytes - (length since - from)) (k.lines + 1 - count) (part from (length since) since)
   unfolding before_numbers state_since
   befores_numbers b n =
-      let on = back_from_placed k.bytes (k.lines + 1) before (omega (arith, from_le k since)) (omega (arith, lines_size k since)) in
-      ap (λ ls. flatten (map flat (map (row before_kind) ls)))
-      (back_from_last k.settings.before k.bytes (k.lines + 1) all ∙ rw ((from_le k since).1, lines_size k since) at on)
-      ∙ ap (λ ls. flatten (map flat (map (row before_kind) (placed (k.bytes - (length since - from)) (k.lines + 1 - count) ls)))) (sym (before_lines k since))
+      let on = back_from_placed k.bytes (k.lines + 1) before (omega (arith, from_le k since)) (omega arith) in
+      ap (λ ls. flatten (map flat (map (row Kind.Before) ls)))
+      (back_from_last k.settings.before k.bytes (k.lines + 1) all ∙ rw (from_le k since).1 at on)
+      ∙ ap (λ ls. flatten (map flat (map (row Kind.Before) (placed (k.bytes - (length since - from)) (k.lines + 1 - count) ls)))) (sym (before_lines k since))
 
   abbrev total : ℕ
   total = gap_before k from + count + 1
 
   module _ (len : ℕ) where
     abbrev own : Row
-    own = row match_kind (next_line (state_since k since) len)
+    own = row Kind.Match (next_line (state_since k since) len)
 
     rows_count : length (fated_rows Match k since len) ≡ total
     unfolding fated_rows
@@ -209,7 +215,7 @@ module _ (k : Walk) (since : List ℕ) where
 
     match_table_lem : (table : List ℕ) → length since ≤ k.bytes → count ≤ k.lines → row_size * total ≤ length table
         → match_table k since len (before_of k since) (gap_before k from) table ≡ put_rows (fated_rows Match k since len) table
-    unfolding match_table fated_rows line_row next_line state_since
+    unfolding match_table fated_rows next_line state_since
     match_table_lem table b n room =
         let first = flatten (map flat gaps) in
         let second = flatten (map flat befores) in
@@ -226,33 +232,33 @@ module _ (k : Walk) (since : List ℕ) where
 
     match_decision : (table : ℕ)
         → fated_decision Match k since len table
-        ≡ cond (ltb k.lines count) (AnswerRefused 6) (cond (ltb table (row_size * total)) (AnswerRefused 4) Give)
+        ≡ cond (ltb k.lines count) (AnswerRefused Unsound) (cond (ltb table (row_size * total)) (AnswerRefused TableShort) Give)
     unfolding fated_decision
     match_decision table = rw (count_is, rows_count)
 
     -- the three ends of a match
     pub match_below : (table : List ℕ) → k.lines < count
-        → (refused_by 6 ≡ fated_given Match k since len (length table)) × (table ≡ fated_table Match k since len table)
-    unfolding fated_given fated_table
+        → (Err Unsound ≡ rows_given Match k since len (length table)) × (table ≡ fated_table Match k since len table)
+    unfolding rows_given fated_table
     match_below table few =
-        let is : fated_decision Match k since len (length table) ≡ AnswerRefused 6 = rw (match_decision (length table), lt-ltb k.lines count few) in
+        let is : fated_decision Match k since len (length table) ≡ AnswerRefused Unsound = rw (match_decision (length table), lt-ltb k.lines count few) in
         (rw is, rw is)
 
     pub match_few : (table : List ℕ) → count ≤ k.lines → length table < row_size * total
-        → (refused_by 4 ≡ fated_given Match k since len (length table)) × (table ≡ fated_table Match k since len table)
-    unfolding fated_given fated_table
+        → (Err TableShort ≡ rows_given Match k since len (length table)) × (table ≡ fated_table Match k since len table)
+    unfolding rows_given fated_table
     match_few table n short =
-        let is : fated_decision Match k since len (length table) ≡ AnswerRefused 4 =
+        let is : fated_decision Match k since len (length table) ≡ AnswerRefused TableShort =
         rw (match_decision (length table), le-ltb k.lines count n, lt-ltb (length table) (row_size * total) short)
         in
         (rw is, rw is)
 
     pub match_gives : (table : List ℕ) → length since ≤ k.bytes → count ≤ k.lines → row_size * total ≤ length table
-        → (served_by Match total ≡ fated_given Match k since len (length table))
+        → (Ok total ≡ rows_given Match k since len (length table))
         × (match_table k since len (before_of k since) (gap_before k from) table ≡ fated_table Match k since len table)
-    unfolding fated_given fated_table
+    unfolding rows_given fated_table
     match_gives table b n room =
         let is : fated_decision Match k since len (length table) ≡ Give =
         rw (match_decision (length table), le-ltb k.lines count n, le-ltb (length table) (row_size * total) room)
         in
-        (rw is (ap (λ m. served_by Match m) (sym rows_count)), rw is (match_table_lem table b n room))
+        (rw is (ap (λ m. Ok m) (sym rows_count)), rw is (match_table_lem table b n room))

@@ -1,7 +1,8 @@
 -- One line answered, by what becomes of it: what is decided, what is given, and every number of the table.
-use Rattle.std.specs.Prelude.{ℕ, ◌*◌, cond, List, length, nat_lt}
+use Rattle.std.specs.Prelude.{ℕ, ◌*◌, cond, List, length, nat_lt, Result, Ok, Err}
+use Rattle.definition.specs.declared.Refusal.{Refusal}
+use Rattle.definition.specs.declared.Refusal.TheVariants.{TableShort, Unsound}
 use Rattle.definition.specs.declared.Fate.{Fate}
-use Rattle.definition.specs.declared.Fate.TheVariants.{NoRow}
 use Rattle.definition.specs.declared.Row.{Row}
 use Rattle.definition.specs.Rows.{flat, row_size}
 use Rattle.definition.specs.State.{next_line, rows_for}
@@ -17,21 +18,24 @@ fated_rows f k since len = rows_for f k.settings (state_since k since) (next_lin
 
 unfoldable pub fated_decision : Fate → Walk → List ℕ → ℕ → ℕ → AnswerDecision
 fated_decision f k since len table =
-    cond (nat_lt k.lines (before_rows f k.settings (state_since k since))) (AnswerRefused 6)
-    (cond (nat_lt table (row_size * length (fated_rows f k since len))) (AnswerRefused 4) Give)
+    cond (nat_lt k.lines (before_rows f k.settings (state_since k since))) (AnswerRefused Unsound)
+    (cond (nat_lt table (row_size * length (fated_rows f k since len))) (AnswerRefused TableShort) Give)
 
-abbrev pub refused_by : ℕ → Given
-refused_by n = record { refusal = n; rows = 0; fate = NoRow }
+-- how many rows come
+abbrev pub rows_given_by : AnswerDecision → Fate → Walk → List ℕ → ℕ → Result ℕ Refusal
+rows_given_by (AnswerRefused n) f k since len = Err n
+rows_given_by Give f k since len = Ok (length (fated_rows f k since len))
 
-abbrev pub served_by : Fate → ℕ → Given
-served_by f rows = record { refusal = 0; rows = rows; fate = f }
+unfoldable pub rows_given : Fate → Walk → List ℕ → ℕ → ℕ → Result ℕ Refusal
+rows_given f k since len table = rows_given_by (fated_decision f k since len table) f k since len
 
-abbrev pub fated_given_by : AnswerDecision → Fate → Walk → List ℕ → ℕ → Given
-fated_given_by (AnswerRefused n) f k since len = refused_by n
-fated_given_by Give f k since len = served_by f (length (fated_rows f k since len))
+-- the same, with what became of the line
+abbrev pub with_fate : Fate → Result ℕ Refusal → Result Given Refusal
+with_fate f (Ok rows) = Ok (record { rows = rows; fate = f })
+with_fate f (Err n) = Err n
 
-unfoldable pub fated_given : Fate → Walk → List ℕ → ℕ → ℕ → Given
-fated_given f k since len table = fated_given_by (fated_decision f k since len table) f k since len
+abbrev pub fated_given : Fate → Walk → List ℕ → ℕ → ℕ → Result Given Refusal
+fated_given f k since len table = with_fate f (rows_given f k since len table)
 
 abbrev pub fated_table_by : AnswerDecision → Fate → Walk → List ℕ → ℕ → List ℕ → List ℕ
 fated_table_by (AnswerRefused n) f k since len table = table
@@ -42,8 +46,11 @@ fated_table f k since len table = fated_table_by (fated_decision f k since len (
 
 -- # A line with one row
 
-unfoldable pub line_given : Fate → ℕ → Given
-line_given f table = cond (nat_lt table row_size) (refused_by 4) (served_by f 1)
+abbrev pub line_rows : ℕ → Result ℕ Refusal
+line_rows table = cond (nat_lt table row_size) (Err TableShort) (Ok 1)
 
-unfoldable pub line_table : Row → List ℕ → List ℕ
+abbrev pub line_given : Fate → ℕ → Result Given Refusal
+line_given f table = with_fate f (line_rows table)
+
+abbrev pub line_table : Row → List ℕ → List ℕ
 line_table r table = cond (nat_lt (length table) row_size) table (put_at 0 (flat r) table)

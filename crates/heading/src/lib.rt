@@ -2,35 +2,29 @@
 #![tactic(auto)]
 
 ghost use Rattle.std.specs.Prelude.{◌≡◌, ◌+◌, ◌≤◌, length};
-ghost use Rattle.session.specs.Calls.{opened};
+ghost use Rattle.session.specs.Calls.{open_result};
 ghost use Rattle.search_machine.specs.declared.Stage.TheVariants.{First, Second};
-ghost use Rattle.search_machine.specs.Head.{looked_at};
+ghost use Rattle.search_machine.specs.Head.{Stands, looked_at};
 ghost use Rattle.search_machine.specs.Standing.{HeadReady, OpenedTo, Turned, seen};
 ghost use Rattle.printing.specs.Texts.{line_most};
 
-use definition::Settings;
-use forms::Asked;
-use lines::Found;
+use definition::{Refusal, Settings};
 use search_machine::{Search, Seen};
 use searcher::Searcher;
 
 // The longest either may be, without its newline.
 pub const LONGEST: usize = 1_024;
 
+// How a line stands that starts at the front of some bytes.
+#[tactic(auto, using(lines::proofs::Laws::found_or, definition::proofs::Terminator::first_le), unfolding(search_machine::specs::Head::looked_at))]
 fn look(bytes: &[u8]) -> Seen
-    ensures { result ≡ looked_at bytes.now }
+    ensures value { result ≡ looked_at bytes.now }
+    ensures stands { Stands result bytes.now }
 {
     match lines::find(bytes, b'\n') {
-        Found::At(length) => if length <= LONGEST {
-            Seen::Whole(length)
-        } else {
-            Seen::TooLong
-        },
-        Found::Nothing => if bytes.len() <= LONGEST {
-            Seen::Unfinished
-        } else {
-            Seen::TooLong
-        },
+        Some(length) if length <= LONGEST => Seen::Whole(length),
+        None if bytes.len() <= LONGEST => Seen::Unfinished,
+        _ => Seen::TooLong,
     }
 }
 
@@ -45,25 +39,24 @@ pub fn first(s: Search, window: &[u8], literal: &[u8], input: &mut [u8], out: &m
         Seen::Whole(length) => {
             let end = from + length;
             match forms::first_line(&input[from..end]) {
-                Asked::For(settings) => open(s, settings, window.len(), end + 1, out),
-                Asked::OtherForm => standing::over(s, printing::refusal(out, s.pending, 1)),
+                Some(settings) => open(s, settings, window.len(), end + 1, out),
+                None => standing::over(s, printing::refusal(out, s.pending, Refusal::BadSettings)),
             }
         }
         Seen::Unfinished => standing::wanting(s, input),
-        Seen::TooLong => standing::over(s, printing::refusal(out, s.pending, 1)),
+        Seen::TooLong => standing::over(s, printing::refusal(out, s.pending, Refusal::BadSettings)),
     }
 }
 
 // Opens the search; the second line starts at a place of the input.
 fn open(s: Search, settings: Settings, window: usize, from: usize, out: &mut [u8]) -> Search
     requires { s.pending.length + line_most ≤ length out.old }
-    ensures { OpenedTo s (opened settings window) from out.old result out.new }
+    ensures { OpenedTo s (open_result settings window) from out.old result out.new }
 {
-    let opened = Searcher::open(settings, window);
-    if opened.refusal != 0 {
-        return standing::over(s, printing::refusal(out, s.pending, opened.refusal));
+    match Searcher::open(settings, window) {
+        Ok(searcher) => standing::opened(s, searcher, from),
+        Err(refused) => standing::over(s, printing::refusal(out, s.pending, refused.refusal)),
     }
-    standing::opened(s, opened.searcher, from)
 }
 
 // The second line, which is the literal; it moves to a room of its own, since the input is read over.
@@ -87,6 +80,6 @@ pub fn second(
             standing::begun(s, length, rare_bytes::choose(&literal[..length]), end + 1)
         }
         Seen::Unfinished => standing::wanting(s, input),
-        Seen::TooLong => standing::over(s, printing::refusal(out, s.pending, 1)),
+        Seen::TooLong => standing::over(s, printing::refusal(out, s.pending, Refusal::BadSettings)),
     }
 }

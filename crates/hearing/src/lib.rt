@@ -2,21 +2,21 @@
 #![tactic(auto)]
 
 ghost use Rattle.std.specs.Prelude.{◌≡◌, List, ℕ, ◌+◌, ◌≤◌, length};
-ghost use Rattle.streams.specs.declared.Moved.TheVariants.{Nothing};
 ghost use Rattle.search_machine.specs.declared.Stage.TheVariants.{Text};
 ghost use Rattle.search_machine.specs.Standing.{Heard, Hearing};
 ghost use Rattle.printing.specs.Texts.{line_most};
 
+use definition::Refusal;
 use machine::Next;
 use search_machine::{Search, Stage};
 use std::io::Write;
-use streams::Moved;
+use streams::Failure;
 
-// What a read gave: bytes behind those that were left, the end, or a failure, which is never the end.
+// What a read gave: bytes behind those that were left, the end where it moved none, or a failure, which is never the end.
 pub fn heard<E: Write>(
     errors: &mut E,
     s: Search,
-    got: Moved,
+    got: Result<usize, Failure>,
     input: &[u8],
     out: &mut [u8],
 ) -> Search
@@ -24,10 +24,10 @@ pub fn heard<E: Write>(
     ensures { (window literal : List ℕ) → Heard s got window literal input.now result out.new }
 {
     match got {
-        Moved::Bytes(n) => standing::more(s, n),
-        Moved::Nothing => ended(s, out),
-        Moved::Interrupted => s,
-        Moved::Failed(reason) => standing::over(
+        Ok(0) => ended(s, out),
+        Ok(n) => standing::more(s, n),
+        Err(Failure::Interrupted) => s,
+        Err(Failure::Errno(reason)) => standing::over(
             s,
             streams::tell_failed_read(errors, out, s.pending, reason),
         ),
@@ -37,12 +37,13 @@ pub fn heard<E: Write>(
 // The end has come. In the first two lines that is a refusal: either misses its newline.
 fn ended(s: Search, out: &mut [u8]) -> Search
     requires { s.pending.length + line_most ≤ length out.old }
-    ensures { (window literal input : List ℕ) → Hearing s Nothing input out.old → Heard s Nothing window literal input result out.new }
+    ensures { (window literal input : List ℕ) → Hearing s (Ok 0) input out.old → Heard s (Ok 0) window literal input result out.new }
 {
-    let stage = s.stage;
-    match stage {
-        Stage::First => standing::over(s, printing::refusal(out, s.pending, 1)),
-        Stage::Second => standing::over(s, printing::refusal(out, s.pending, 1)),
+    match s.stage {
+        Stage::First | Stage::Second => standing::over(
+            s,
+            printing::refusal(out, s.pending, Refusal::BadSettings),
+        ),
         Stage::Text => text_ended(s, out),
     }
 }
@@ -50,14 +51,12 @@ fn ended(s: Search, out: &mut [u8]) -> Search
 // The end of the text has come.
 fn text_ended(s: Search, out: &mut [u8]) -> Search
     requires { (s.stage ≡ Text) × (s.pending.length + line_most ≤ length out.old) }
-    ensures { (window literal input : List ℕ) → Hearing s Nothing input out.old → Heard s Nothing window literal input result out.new }
+    ensures { (window literal input : List ℕ) → Hearing s (Ok 0) input out.old → Heard s (Ok 0) window literal input result out.new }
 {
     let pending = s.pending;
     let fed = driving::tell_end(s.searcher);
-    let searcher = fed.searcher;
-    let next = fed.next;
-    match next {
-        Next::Goes => standing::going(s, searcher, s.from, pending),
+    match fed.next {
+        Next::Goes => standing::going(s, fed.session, s.from, pending),
         Next::Wants => s,
         Next::Refuses(k) => standing::over(s, printing::refusal(out, pending, k)),
         Next::Ends(end) => standing::over(s, printing::end(out, pending, end)),

@@ -10,20 +10,16 @@ ghost use Rattle.session.specs.Held.{is_open, kept_from, unanswered};
 ghost use Rattle.session.specs.Sound.{agrees, places_agree, sound, taken_bytes};
 
 use definition::Settings;
-use driver_core::LineAhead;
 use session::{Input, Places, Session};
 
 pub fn is_open(input: Input) -> bool
     ensures { result ≡ is_open input }
 {
-    match input {
-        Input::Open => true,
-        Input::Ended => false,
-        Input::QuitFound => false,
-    }
+    input == Input::Open
 }
 
 // The places are in order; what the walk is asked with then stays at 0 or above.
+#[tactic(auto, unfolding(session::specs::Sound::places_agree, session::specs::Sound::places_tests))]
 fn in_order(p: Places) -> bool
     ensures { result ≡ places_agree p }
 {
@@ -35,26 +31,25 @@ fn in_order(p: Places) -> bool
 }
 
 // Whether a session's numbers agree with each other.
+#[tactic(auto, unfolding(session::specs::Sound::agrees, session::specs::Sound::places_agree, session::specs::Sound::places_tests))]
 pub fn agree(s: Session) -> bool
     ensures { result ≡ agrees s }
 {
-    let walk = s.walk;
     let p = s.places;
-    if in_order(p) {
-        agreeing::agree(walk, p.next - p.floor, p.end - p.next)
-    } else {
-        false
-    }
+    in_order(p) && agreeing::agree(s.walk, p.next - p.floor, p.end - p.next)
 }
 
 // The same, and that the window lent has the length given at opening.
+#[tactic(auto, unfolding(session::specs::Sound::sound))]
 pub fn is_sound(s: Session, window: usize) -> bool
     ensures { result ≡ sound s window }
 {
     agree(s) & (window == s.places.window)
 }
 
-// The bytes taken: gone through, and held unanswered.
+// The bytes taken: gone through, and held unanswered. That the places are in order is asked here and below and is no invariant of
+// `Session`: a caller may make up any numbers, which `agree` tells and every call refuses.
+#[tactic(auto, unfolding(session::specs::Sound::taken_bytes))]
 pub fn taken_bytes(s: Session) -> u64
     requires { (s.places.next ≤ s.places.end) × (s.walk.bytes + (s.places.end - s.places.next) ≤ max_input) }
     ensures { result ≡ taken_bytes s }
@@ -63,19 +58,17 @@ pub fn taken_bytes(s: Session) -> u64
 }
 
 // The line that waits, read from the window as it stands.
-pub fn next_line(s: Session, window: &[u8]) -> LineAhead
+#[tactic(auto, unfolding(session::specs::Held::unanswered))]
+pub fn next_line(s: Session, window: &[u8]) -> Option<usize>
     requires { (s.places.next ≤ s.places.end) × (s.places.end ≤ length window.now) }
     ensures { result ≡ line_ahead s.walk (is_open s.places.input) (unanswered s window.now) }
 {
-    let walk = s.walk;
     let p = s.places;
-    let next = p.next;
-    let end = p.end;
-    let input = p.input;
-    ahead::next_line(walk, is_open(input), &window[next..end])
+    ahead::next_line(s.walk, is_open(p.input), &window[p.next..p.end])
 }
 
 // How many lines before the waiting one are kept.
+#[tactic(auto, unfolding(definition::specs::Definition::kept_lines))]
 fn kept_lines(c: Settings) -> usize
     requires { c.before ≤ max_context }
     ensures { result ≡ kept_lines c }
@@ -88,13 +81,12 @@ fn kept_lines(c: Settings) -> usize
 }
 
 // Where the kept part starts, found backwards from the first byte not answered.
+#[tactic(auto, using(lines::proofs::Laws::last_le, session::proofs::Parts::part_length, crate::proofs::Laws::kept_back))]
 pub fn kept_from(s: Session, window: &[u8]) -> usize
     requires { (s.places.floor ≤ s.places.next) × (s.places.next ≤ length window.now) × (s.walk.settings.before ≤ max_context) }
     ensures { result ≡ kept_from s window.now }
 {
     let c = s.walk.settings;
     let p = s.places;
-    let floor = p.floor;
-    let next = p.next;
-    floor + lines::preceding(&window[floor..next], c.terminator, kept_lines(c))
+    p.floor + lines::preceding(&window[p.floor..p.next], c.terminator, kept_lines(c))
 }

@@ -1,26 +1,16 @@
 -- Laws of hexadecimal digits, for the functions here.
-use Prim.Native.Nat.{ℕ, ◌+◌, ◌-◌, ◌*◌, ◌/◌, ◌%◌, ◌≤◌, ◌<◌}
+use Prim.Native.Nat.{ℕ, ◌+◌, ◌*◌, ◌/◌, ◌%◌, ◌≤◌, ◌<◌}
 use mathlib.Core.Path.{◌≡◌, refl, sym, ◌∙◌, ap}
 use mathlib.Core.List.{List, [], ◌∷◌, ◌++◌}
-use native.Mathlib.Decide.{dec_le}
 use native.Mathlib.Numerals.{add-one}
 use native.Mathlib.Omega.{arith}
-use lib.Dec.{leb}
 use lib.ListN.{length, take, get_or, length-take}
 use lib.Seq.{take-suc}
-use borrow.Author.Tests.{le-leb, lt-leb}
 use Rattle.definition.specs.Text.{put_at}
 use Rattle.definition.proofs.Lists.{put_at_none}
 use Rattle.output.specs.declared.Pending.{Pending}
 use Rattle.output.specs.Output.{added}
 use Rattle.hex_text.specs.Hex.{glyph_of, hex_text, hexed}
-
--- twice as many have room where as many have room in the half
-pub half_left : (at size all : ℕ) → at ≤ all → leb size ((all - at) / 2) ≡ leb (at + 2 * size) all
-half_left at size all h = elim (dec_le size ((all - at) / 2)) [
-  | yes k ↦ rw (le-leb size ((all - at) / 2) k, le-leb (at + 2 * size) all (omega arith))
-  | no k ↦ rw (lt-leb size ((all - at) / 2) (omega arith), lt-leb (at + 2 * size) all (omega arith))
-]
 
 pub length_hexed : (xs : List ℕ) → length (hexed xs) ≡ 2 * length xs
 unfolding hexed

@@ -1,7 +1,5 @@
--- How bytes are written in hexadecimal digits, and where those lie that a word gave.
-use Rattle.std.specs.Prelude.{ℕ, ◌+◌, ◌/◌, ◌%◌, ◌≤◌, cond, List, [], ◌∷◌, ltb, length}
-use Rattle.hex_text.specs.declared.Decoded.{Decoded}
-use Rattle.hex_text.specs.declared.Decoded.TheVariants.{Bytes, NoBytes}
+-- How bytes are written in hexadecimal digits.
+use Rattle.std.specs.Prelude.{ℕ, ◌+◌, ◌/◌, ◌%◌, cond, List, [], ◌∷◌, ltb}
 
 -- `0` to `9`, then `a` to `f`
 abbrev pub glyph_of : ℕ → ℕ
@@ -15,8 +13,3 @@ hexed (b ∷ bs) = glyph_of (b / 16) ∷ (glyph_of (b % 16) ∷ hexed bs)
 unfoldable pub hex_text : List ℕ → List ℕ
 hex_text [] = 45 ∷ []
 hex_text (b ∷ bs) = hexed (b ∷ bs)
-
--- the bytes that a word gave lie at a buffer's front
-abbrev pub DecodedWithin : Decoded → List ℕ → Type 0
-DecodedWithin (Bytes n) bytes = n ≤ length bytes
-DecodedWithin NoBytes bytes = Unit

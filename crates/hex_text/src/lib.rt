@@ -1,25 +1,18 @@
 // Bytes as hexadecimal digits, two lower-case ones a byte or `-` for none, both ways.
 #![tactic(auto)]
 
-ghost use Rattle.std.specs.Prelude.{◌≡◌, ◌+◌, ◌*◌, ◌≤◌, ◌<◌, leb, length};
+ghost use Rattle.std.specs.Prelude.{◌≡◌, ◌+◌, ◌≤◌, ◌<◌, leb, length, IfSome};
 ghost use Rattle.output.specs.Output.{collected, collected_in};
-ghost use Rattle.hex_text.specs.Hex.{DecodedWithin, glyph_of, hex_text};
+ghost use Rattle.hex_text.specs.Hex.{glyph_of, hex_text};
 
 use output::Pending;
-
-// How many bytes a word gave.
-#[derive(Clone, Copy)]
-pub enum Decoded {
-    Bytes(usize),
-    NoBytes,
-}
 
 // Collects bytes as two lower-case hexadecimal digits each, or `-` where there are none.
 pub fn put(out: &mut [u8], pending: Pending, bytes: &[u8]) -> Pending
     ensures value { result ≡ collected pending (hex_text bytes.now) out.old }
     ensures out_after { out.new ≡ collected_in pending (hex_text bytes.now) out.old }
 {
-    if bytes.len() == 0 {
+    if bytes.is_empty() {
         return output::put(out, pending, b"-");
     }
     if !has_room(out, pending.length, bytes) {
@@ -29,16 +22,15 @@ pub fn put(out: &mut [u8], pending: Pending, bytes: &[u8]) -> Pending
         };
     }
     let mut p = pending;
-    let mut i = 0;
-    while i < bytes.len() {
-        let pair = [glyph(bytes[i] / 16), glyph(bytes[i] % 16)];
+    for byte in bytes {
+        let pair = [glyph(*byte / 16), glyph(*byte % 16)];
         p = output::put(out, p, &pair);
-        i += 1;
     }
     p
 }
 
 // Whether two digits for each of some bytes have room behind a place.
+#[tactic(auto, using(crate::proofs::Laws::length_hex_text))]
 fn has_room(out: &[u8], at: usize, bytes: &[u8]) -> bool
     requires { 0 < length bytes.now }
     ensures { result ≡ leb (at + length (hex_text bytes.now)) (length out.now) }
@@ -61,63 +53,29 @@ fn glyph(digit: u8) -> u8
 }
 
 // Puts the bytes that a word writes, two lower-case hexadecimal digits each or `-` for none, at a buffer's front.
-pub fn read(word: &[u8], bytes: &mut [u8]) -> Decoded
-    ensures { DecodedWithin result bytes.new }
+pub fn read(word: &[u8], bytes: &mut [u8]) -> Option<usize>
+    ensures { IfSome result (λ n. n ≤ length bytes.new) }
 {
     if line_words::is_dash(word) {
-        return Decoded::Bytes(0);
+        return Some(0);
     }
-    let count = word.len() / 2;
-    if count == 0 {
-        return Decoded::NoBytes;
+    let (pairs, rest) = word.as_chunks::<2>();
+    if pairs.is_empty() || !rest.is_empty() || bytes.len() < pairs.len() {
+        return None;
     }
-    if word.len() % 2 == 1 {
-        return Decoded::NoBytes;
+    for (byte, [high, low]) in bytes.iter_mut().zip(pairs) {
+        *byte = 16 * digit(*high)? + digit(*low)?;
     }
-    if bytes.len() < count {
-        return Decoded::NoBytes;
-    }
-    if pairs(word, bytes, count) {
-        return Decoded::Bytes(count);
-    }
-    Decoded::NoBytes
+    Some(pairs.len())
 }
 
-// The bytes of so many pairs of digits; whether all are digits.
-fn pairs(word: &[u8], bytes: &mut [u8], count: usize) -> bool
-    requires { (2 * count ≤ length word.now) × (count ≤ length bytes.old) }
+// What a hexadecimal digit stands for.
+fn digit(glyph: u8) -> Option<u8>
+    ensures { IfSome result (λ d. d < 16) }
 {
-    let mut i = 0;
-    while i < count {
-        let high = digit(word[2 * i]);
-        let low = digit(word[2 * i + 1]);
-        if 15 < high {
-            return false;
-        }
-        if 15 < low {
-            return false;
-        }
-        bytes[i] = 16 * high + low;
-        i += 1;
+    match glyph {
+        b'0'..=b'9' => Some(glyph - b'0'),
+        b'a'..=b'f' => Some(glyph - b'a' + 10),
+        _ => None,
     }
-    true
-}
-
-// What a hexadecimal digit stands for; 16 where it is none.
-fn digit(glyph: u8) -> u8
-    ensures { result ≤ 16 }
-{
-    if glyph < b'0' {
-        return 16;
-    }
-    if glyph <= b'9' {
-        return glyph - b'0';
-    }
-    if glyph < b'a' {
-        return 16;
-    }
-    if glyph <= b'f' {
-        return glyph - b'a' + 10;
-    }
-    16
 }

@@ -1,13 +1,12 @@
 -- Laws of the window's bytes, for the functions here and the layers above.
 use Prim.Native.Nat.{ℕ, zero, suc, ◌+◌, ◌-◌, ◌≤◌, ◌<◌}
-use mathlib.Core.Path.{◌≡◌, refl, sym, ◌∙◌, ap}
+use mathlib.Core.Path.{◌≡◌, refl, ◌∙◌, ap}
 use mathlib.Core.Bool.{cond}
 use mathlib.Core.List.{List, [], ◌∷◌, ◌++◌, append-nil}
-use native.Mathlib.Numerals.{add-one}
 use native.Mathlib.Omega.{arith}
 use lib.Dec.{eqb}
 use lib.ListN.{length, take, drop, get_or, set, drop_of_length-le, length-append, length-drop, take-append-drop}
-use lib.Seq.{append_snoc, drop-append-add, drop-cons, drop-drop, get_or-append-add, get_or-drop, length-take-le, set_at, take_all, take_at, take-suc}
+use lib.Seq.{drop-append-add, drop-drop, length-take-le, take_all, take_at}
 use borrow.Rule.Slice.PartMut.{put_mid}
 use Rattle.definition.specs.Text.{part, put_at, replaced}
 use Rattle.definition.specs.declared.Binary.{Binary}
@@ -15,32 +14,15 @@ use Rattle.definition.specs.declared.Binary.TheVariants.{Convert}
 use Rattle.definition.proofs.Uncut.{length_replaced}
 use Rattle.line_buffer.specs.Buffer.{converted, rolled}
 
--- # Writing from the front
-
--- the first i of some bytes, written over others
-abbrev pub over : List ℕ → List ℕ → ℕ → List ℕ
-over s d i = take i s ++ drop i d
-
-pub over_next : (s d : List ℕ) (i : ℕ) → i < length s → i < length d → set (over s d i) i (get_or s i 0) ≡ over s d (i + 1)
-over_next s d i h k =
-    let here = get_or s i 0 in
-    let rest = drop (suc i) d in
-    rw (add-one i, drop-cons d i 0 k, take-suc s i 0 h)
-    (set_at (take i s) (get_or d i 0) rest here i (length-take-le i s (omega arith)) ∙ sym (append_snoc (take i s) here rest))
-
--- what is not yet written over
-pub over_read : (s d : List ℕ) (i k : ℕ) → i ≤ length s → i ≤ k → get_or (over s d i) k 0 ≡ get_or d k 0
-over_read s d i k h j =
-    let size = length-take-le i s h in
-    let at : length (take i s) + (k - i) ≡ k = omega (arith, size) in
-    let there : i + (k - i) ≡ k = omega arith in
-    rw at at (get_or-append-add (take i s) (drop i d) (k - i) 0) ∙ rw there at (get_or-drop i d (k - i) 0)
-
-pub get_d_replaced : (b t i : ℕ) (xs : List ℕ) → i < length xs → get_or (replaced b t xs) i 0 ≡ cond (eqb (get_or xs i 0) b) t (get_or xs i 0)
+-- one byte more of a piece, replaced and written over others
+pub replaced_next : (b t i : ℕ) (piece old : List ℕ) → i < length piece → i < length old
+    → let x = get_or piece i 0 in
+    set (replaced b t (take i piece) ++ drop i old) i (cond (eqb x b) t x) ≡ replaced b t (take (suc i) piece) ++ drop (suc i) old
 unfolding replaced
-get_d_replaced b t i [] h = absurd (omega arith)
-get_d_replaced b t zero (x ∷ xs) h = refl
-get_d_replaced b t (suc i) (x ∷ xs) h = get_d_replaced b t i xs (omega arith)
+replaced_next b t i [] old h k = absurd (omega arith)
+replaced_next b t i (x ∷ xs) [] h k = absurd (omega arith)
+replaced_next b t zero (x ∷ xs) (y ∷ ys) h k = refl
+replaced_next b t (suc i) (x ∷ xs) (y ∷ ys) h k = ap (λ zs. cond (eqb x b) t x ∷ zs) (replaced_next b t i xs ys (omega arith) (omega arith))
 
 -- # The window
 

@@ -2,7 +2,7 @@
 // behind it, converted where that is set.
 #![tactic(auto)]
 
-ghost use Rattle.std.specs.Prelude.{◌≡◌, ◌+◌, ◌≤◌, cond, ◌++◌, eqb, length, drop};
+ghost use Rattle.std.specs.Prelude.{◌≡◌, ◌+◌, ◌≤◌, ◌++◌, length, drop};
 ghost use Rattle.definition.specs.Text.{put_at, replaced};
 ghost use Rattle.line_buffer.specs.Buffer.{converted, rolled};
 
@@ -16,11 +16,7 @@ pub fn roll(window: &mut [u8], from: usize, to: usize)
     if from == 0 {
         return;
     }
-    let mut i = from;
-    while i < to {
-        window[i - from] = window[i];
-        i += 1;
-    }
+    window.copy_within(from..to, 0);
 }
 
 // A piece goes into the window from the held end on, converted if set; places beyond it stay.
@@ -30,10 +26,7 @@ pub fn take_in(window: &mut [u8], end: usize, piece: &[u8], binary: Binary, term
 {
     // Copying is apart from the converting loop, since it has nothing to test.
     match binary {
-        Binary::Ignore => {
-            window[end..end + piece.len()].copy_from_slice(piece);
-        }
-        Binary::Quit(_) => {
+        Binary::Ignore | Binary::Quit(_) => {
             window[end..end + piece.len()].copy_from_slice(piece);
         }
         Binary::Convert(byte) => replace_bytes(&mut window[end..], piece, byte, terminator),
@@ -45,15 +38,7 @@ fn replace_bytes(tail: &mut [u8], piece: &[u8], byte: u8, by: u8)
     requires { length piece.now ≤ length tail.old }
     ensures { tail.new ≡ replaced byte by piece.now ++ drop (length piece.now) tail.old }
 {
-    let mut i = 0;
-    while i < piece.len() {
-        tail[i] = replacement(piece[i], byte, by);
-        i += 1;
+    for (i, x) in piece.iter().enumerate() {
+        tail[i] = if *x == byte { by } else { *x };
     }
-}
-
-fn replacement(x: u8, byte: u8, by: u8) -> u8
-    ensures { result ≡ cond (eqb x byte) by x }
-{
-    if x == byte { by } else { x }
 }

@@ -1,7 +1,5 @@
 -- Decimal numbers without leading zeros that 64 bits hold, and the dash that stands for none.
-use Rattle.std.specs.Prelude.{ℕ, ◌+◌, ◌-◌, ◌*◌, Bool, true, false, cond, ◌&&◌, List, [], ◌∷◌, eqb, leb, ltb}
-use Rattle.line_words.specs.declared.Number.{Number}
-use Rattle.line_words.specs.declared.Number.TheVariants.{Value, NoNumber}
+use Rattle.std.specs.Prelude.{ℕ, bytes_eq, ◌+◌, ◌-◌, ◌*◌, Bool, true, false, cond, ◌&&◌, List, [], ◌∷◌, eqb, leb, ltb, Option, Some, None}
 
 -- the first number that 64 bits do not hold
 abbrev pub top : ℕ
@@ -21,33 +19,19 @@ behind n [] = n
 behind n (x ∷ xs) = behind (10 * n + (x - 48)) xs
 
 -- a number with one digit more
-unfoldable pub digit_behind : ℕ → ℕ → Number
-digit_behind n x = cond (is_digit x && ltb (10 * n + (x - 48)) top) (Value (10 * n + (x - 48))) NoNumber
+unfoldable pub digit_behind : ℕ → ℕ → Option ℕ
+digit_behind n x = cond (is_digit x && ltb (10 * n + (x - 48)) top) (Some (10 * n + (x - 48))) None
 
 -- a number with more digits
-unfoldable pub digits_behind : ℕ → List ℕ → Number
-digits_behind n xs = cond (are_digits xs && ltb (behind n xs) top) (Value (behind n xs)) NoNumber
+unfoldable pub digits_behind : ℕ → List ℕ → Option ℕ
+digits_behind n xs = cond (are_digits xs && ltb (behind n xs) top) (Some (behind n xs)) None
 
 -- at least one digit, and a zero in front only where it is alone
-unfoldable pub decimal_of : List ℕ → Number
-decimal_of [] = NoNumber
+unfoldable pub decimal_of : List ℕ → Option ℕ
+decimal_of [] = None
 decimal_of (x ∷ []) = digits_behind 0 (x ∷ [])
-decimal_of (x ∷ (y ∷ ys)) = cond (eqb x 48) NoNumber (digits_behind 0 (x ∷ (y ∷ ys)))
-
-abbrev pub is_number : Number → Bool
-is_number (Value n) = true
-is_number NoNumber = false
-
-abbrev pub within_of : Number → ℕ → Bool
-within_of (Value n) most = leb n most
-within_of NoNumber most = false
-
-abbrev pub value_of : Number → ℕ
-value_of (Value n) = n
-value_of NoNumber = 0
+decimal_of (x ∷ (y ∷ ys)) = cond (eqb x 48) None (digits_behind 0 (x ∷ (y ∷ ys)))
 
 -- a dash alone
 unfoldable pub is_dash : List ℕ → Bool
-is_dash [] = false
-is_dash (x ∷ []) = eqb x 45
-is_dash (x ∷ (y ∷ ys)) = false
+is_dash word = bytes_eq word (45 ∷ [])

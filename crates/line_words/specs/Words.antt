@@ -1,5 +1,5 @@
 -- Words that single spaces separate.
-use Rattle.std.specs.Prelude.{ℕ, zero, suc, ◌+◌, cond, List, [], ◌∷◌, eqb, drop}
+use Rattle.std.specs.Prelude.{ℕ, zero, suc, List, count_by, eqb, drop}
 use Rattle.definition.specs.Text.{first_length, up_to}
 
 abbrev pub space : ℕ
@@ -7,8 +7,7 @@ space = 32
 
 -- how many spaces a line has
 unfoldable pub spaces_of : List ℕ → ℕ
-spaces_of [] = 0
-spaces_of (x ∷ xs) = cond (eqb x space) 1 0 + spaces_of xs
+spaces_of = count_by (λ x. eqb x space)
 
 -- the word after the first n spaces; empty where there are fewer
 unfoldable pub word_of : ℕ → List ℕ → List ℕ

@@ -1,4 +1,5 @@
 -- Laws of the line rules, for the functions here and the layers above: all hold for any terminator.
+use Rattle.std.specs.Prelude.{Some, None}
 use Prim.Native.Nat.{ℕ, zero, suc, ◌+◌, ◌-◌, ◌≤◌, ◌<◌}
 use mathlib.Core.Path.{◌≡◌, refl, sym, ◌∙◌, ap, ap₂}
 use mathlib.Core.Logic.{◌≢◌}
@@ -10,46 +11,34 @@ use native.Mathlib.Omega.{arith}
 use lib.Dec.{eqb, ltb}
 use lib.ListN.{length, take, drop, get_or, length-append, length-drop, length-take, take-append-drop}
 use lib.Seq.{drop-cons, drop-drop, drop-length, take_all, take-suc, take-take}
-use borrow.Author.Tests.{eq-eqb, ne_eqb, ltb-false, ltb-true}
+use borrow.Author.Tests.{eq-eqb, ne_eqb}
+use Rattle.std.proofs.lemmas.Grind.{common_steps}
+use Rattle.std.proofs.lemmas.List.Recursion.{is_position_or_len}
 use Rattle.definition.specs.Definition.{last_of}
 use Rattle.definition.specs.Text.{first_length, first_place, handed, lines, up_to}
-use Rattle.lines.specs.declared.Found.TheVariants.{At, Nothing}
 use Rattle.lines.specs.Lines.{found, last_start, without_terminator}
 use Rattle.definition.proofs.Lists.{flatten_append, last_of_append}
 use Rattle.definition.proofs.Terminator.{first_le, flatten_last, handed_next, lines_head, lines_only, lines_take, Whole, whole_ended, whole_none, whole_take}
 
 -- # The first place of a byte, looked for from a place on
 
-pub first_here : (b i : ℕ) (xs : List ℕ) → i < length xs → get_or xs i 0 ≡ b → first_place b (drop i xs) ≡ 0
-unfolding first_place up_to
-first_here b i xs h e = rw (drop-cons xs i 0 h, eq-eqb _ _ e)
-
 pub first_later : (b i : ℕ) (xs : List ℕ) → i < length xs → get_or xs i 0 ≢ b → first_place b (drop i xs) ≡ first_place b (drop (i + 1) xs) + 1
 unfolding first_place up_to
 first_later b i xs h e = rw (drop-cons xs i 0 h, ne_eqb _ _ e, add-one, add-one i)
 
--- what the answer says
-pub found_at : (b i : ℕ) (xs : List ℕ) → At i ≡ found b xs → (i ≡ first_place b xs) × (i < length xs)
-unfolding found
-found_at b i xs h = go (ltb (first_place b xs) (length xs)) refl h
+-- what the answer says: the first place that passes the test
+pub found_or : (b : ℕ) (xs : List ℕ) → found b xs ≡ cond (ltb (first_place b xs) (length xs)) (Some (first_place b xs)) None
+unfolding found first_place up_to
+found_or b xs = rw (is_position_or_len (first_place b) (λ x. eqb x b) refl (step b) xs)
   where
-    go : (k : Bool) → ltb (first_place b xs) (length xs) ≡ k → At i ≡ cond k (At (first_place b xs)) Nothing → (i ≡ first_place b xs) × (i < length xs)
-    go true e h =
-        let same : i ≡ first_place b xs = cc in
-        (same, omega (arith, ltb-true (first_place b xs) (length xs) e))
-    go false e h =
-        let z : ◌≡◌ {A = ℕ} 0 1 = cc in
-        absurd (omega arith)
+    step : (b x : ℕ) (xs : List ℕ) → first_place b (x ∷ xs) ≡ cond (eqb x b) 0 (1 + first_place b xs)
+    step b x xs = elim (eqb x b) as (λ k. length (cond k [] (x ∷ up_to b xs)) ≡ cond k 0 (1 + length (up_to b xs))) [ true ↦ refl | false ↦ omega arith ]
 
-pub found_nothing : (b : ℕ) (xs : List ℕ) → Nothing ≡ found b xs → first_place b xs ≡ length xs
-unfolding found
-found_nothing b xs h = go (ltb (first_place b xs) (length xs)) refl h
-  where
-    go : (k : Bool) → ltb (first_place b xs) (length xs) ≡ k → Nothing ≡ cond k (At (first_place b xs)) Nothing → first_place b xs ≡ length xs
-    go true e h =
-        let z : ◌≡◌ {A = ℕ} 0 1 = cc in
-        absurd (omega arith)
-    go false e h = omega (arith, ltb-false (first_place b xs) (length xs) e, first_le b xs)
+pub found_at : (b i : ℕ) (xs : List ℕ) → Some i ≡ found b xs → (i ≡ first_place b xs) × (i < length xs)
+found_at b i xs h = grind (arith, common_steps, found_or)
+
+pub found_nothing : (b : ℕ) (xs : List ℕ) → None ≡ found b xs → first_place b xs ≡ length xs
+found_nothing b xs h = grind (arith, common_steps, found_or, first_le)
 
 -- # The last lines, read backwards
 
@@ -176,12 +165,15 @@ step_at t i r xs h e =
     let first : r ≡ first_length t (drop i xs) = rw (take_all (length xs - i) (drop i xs) (omega arith)) at e in
     (first, omega (arith, first), omega (arith, first))
 
+pub count_head : (t : ℕ) (xs : List ℕ) → 0 < length xs
+    → length (lines t xs) ≡ length (lines t (drop (first_length t xs) xs)) + 1
+count_head t xs h = omega (arith, ap length (lines_head t xs h))
+
 pub count_step : (t i : ℕ) (xs : List ℕ) → i < length xs
     → length (lines t (drop i xs)) ≡ length (lines t (drop (i + first_length t (drop i xs)) xs)) + 1
 count_step t i xs h =
     let rest = drop i xs in
-    let head = ap length (lines_head t rest (omega (arith, length-drop i xs))) in
-    omega (arith, rw (drop-drop (first_length t rest) i xs) at head)
+    rw (drop-drop (first_length t rest) i xs) at (count_head t rest (omega (arith, length-drop i xs)))
 
 -- # A line without its terminator
 

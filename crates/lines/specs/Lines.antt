@@ -1,14 +1,12 @@
 -- The line rules on lists, for any terminator: each is what its function in src/lib.rt gives.
-use Rattle.std.specs.Prelude.{ℕ, ◌-◌, cond, ltb, eqb, length}
+use Rattle.std.specs.Prelude.{ℕ, ◌-◌, cond, eqb, length, position, Option}
 use mathlib.Core.List.{List, [], ◌∷◌, flatten}
 use Rattle.definition.specs.Definition.{last_of}
-use Rattle.definition.specs.Text.{first_place, lines}
-use Rattle.lines.specs.declared.Found.{Found}
-use Rattle.lines.specs.declared.Found.TheVariants.{At, Nothing}
+use Rattle.definition.specs.Text.{lines}
 
 -- the first place of a byte, if it has one
-unfoldable pub found : ℕ → List ℕ → Found
-found b bytes = cond (ltb (first_place b bytes) (length bytes)) (At (first_place b bytes)) Nothing
+unfoldable pub found : ℕ → List ℕ → Option ℕ
+found b = position (λ x. eqb x b)
 
 -- the place where the last n lines start
 unfoldable pub last_start : ℕ → ℕ → List ℕ → ℕ

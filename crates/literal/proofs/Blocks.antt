@@ -1,5 +1,5 @@
 -- What the search learns of blocks of any width, and what it knows at the end of the line.
-use Prim.Native.Nat.{ℕ, ◌+◌, ◌-◌, ◌≤◌, ◌<◌, min}
+use Prim.Native.Nat.{ℕ, ◌+◌, ◌≤◌, ◌<◌}
 use mathlib.Core.Path.{◌≡◌, refl, sym}
 use mathlib.Core.Bool.{Bool, true, false}
 use mathlib.Core.List.{List}
@@ -8,13 +8,13 @@ use native.Mathlib.Omega.{arith}
 use lib.ListN.{length, drop, length-drop}
 use Rattle.literal_places.specs.Literal.{starts_with, stands}
 use Rattle.literal_places.specs.Sweeps.{Nowhere, Swept}
+use Rattle.literal_places.proofs.Sweeps.{nowhere_more}
 use Rattle.literal_places.proofs.Stands.{starts_short, stands_nowhere}
-use Rattle.literal_places.proofs.Sweeps.{SweptTo, swept_more}
 
--- a block more, which reaches back over places already seen where fewer than n are left
-pub swept_block : {literal line : List ℕ} {from i to at : ℕ} (n : ℕ) → SweptTo literal line from i to → from + n ≤ to → at ≡ min i (to - n) → Nowhere literal line at (at + n)
-    → SweptTo literal line from (at + n) to
-swept_block n seen l e block = swept_more _ n seen (omega arith) (omega arith) (omega arith) block
+-- the last block, which reaches back over places already seen
+pub block_last : (literal line : List ℕ) (from last to : ℕ) (r : Bool) → Nowhere literal line from last → Swept literal line last to r → Swept literal line from to r
+block_last literal line from last to r seen block =
+    record { found = block.found; none = λ e. nowhere_more literal line from last to seen (block.none e) }
 
 -- the answer for all places at which the literal fits is the answer for the line
 pub swept_whole : {literal line : List ℕ} {to : ℕ} {r : Bool} → Swept literal line 0 to r → length line < to + length literal → r ≡ stands literal line

@@ -1,14 +1,16 @@
 -- Laws of `starts_with` and `stands`, and that `stands` is true exactly where the literal has a place in the line.
 use Prim.Native.Nat.{ℕ, zero, suc, ◌+◌, ◌≤◌, ◌<◌}
-use mathlib.Core.Path.{◌≡◌, refl, ap, ap₂}
+use mathlib.Core.Path.{◌≡◌, refl, sym, ap, ap₂}
 use mathlib.Core.Bool.{Bool, true, false, ◌&&◌, ◌||◌, false≢true}
 use mathlib.Core.List.{List, [], ◌∷◌, ◌++◌}
 use native.Mathlib.Numerals.{add-one}
+use Rattle.std.proofs.Common.{add-zero}
 use native.Mathlib.Omega.{arith}
 use lib.Dec.{eqb}
 use lib.ListN.{length, get_or, drop}
 use lib.Seq.{drop-cons, drop-length, drop-append_seam}
 use borrow.Author.Tests.{eqb-true, eq-eqb}
+use Rattle.std.specs.List.{list_all, range_with_len}
 use Rattle.literal_places.specs.Literal.{starts_with, stands, Occurrence, StandsSomewhere}
 
 -- # A text that begins with the literal
@@ -41,7 +43,7 @@ starts_short (b ∷ bs) (x ∷ xs) l = rw (starts_short bs xs (omega arith)) (an
     and-false false = refl
 
 -- a comparison byte by byte: one more byte ..
-pub starts_step : (literal line : List ℕ) (at k : ℕ) → k < length literal → at + k < length line
+starts_step : (literal line : List ℕ) (at k : ℕ) → k < length literal → at + k < length line
     → starts_with (drop k literal) (drop (at + k) line)
     ≡ (eqb (get_or line (at + k) 0) (get_or literal k 0) && starts_with (drop (k + 1) literal) (drop (at + (k + 1)) line))
 unfolding starts_with
@@ -50,9 +52,22 @@ starts_step literal line at k l m =
     rw (e, add-one k, drop-cons literal k 0 l, drop-cons line (at + k) 0 m)
 
 -- .. until the literal is at its end
-pub starts_end : (literal text : List ℕ) → starts_with (drop (length literal) literal) text ≡ true
+starts_end : (literal text : List ℕ) → starts_with (drop (length literal) literal) text ≡ true
 unfolding starts_with
 starts_end literal text = rw (drop-length literal)
+
+-- the last n bytes of the literal
+starts_last : (literal line : List ℕ) (at k n : ℕ) → k + n ≡ length literal → at + length literal ≤ length line
+    → list_all (λ j. eqb (get_or line (at + j) 0) (get_or literal j 0)) (range_with_len k n) ≡ starts_with (drop k literal) (drop (at + k) line)
+starts_last literal line at k zero e l =
+    let h : k ≡ length literal = omega arith in
+    rw h (sym (starts_end literal (drop (at + length literal) line)))
+starts_last literal line at k (suc n) e l =
+    rw (starts_step literal line at k (omega arith) (omega arith), add-one k, starts_last literal line at (suc k) n (omega arith) l)
+
+pub starts_all : (literal line : List ℕ) (at : ℕ) → at + length literal ≤ length line
+    → list_all (λ j. eqb (get_or line (at + j) 0) (get_or literal j 0)) (range_with_len 0 (length literal)) ≡ starts_with literal (drop at line)
+starts_all literal line at l = rw add-zero at (starts_last literal line at 0 (length literal) (omega arith) l)
 
 -- # A line in which the literal stands
 
@@ -68,7 +83,9 @@ stands_at literal (x ∷ xs) (suc j) h = rw (stands_at literal xs j h) (or-true 
     or-true false = refl
 
 pub stands_empty : (literal line : List ℕ) → length literal ≡ 0 → stands literal line ≡ true
-stands_empty literal line e = stands_at literal line 0 (rw e at (starts_end literal line))
+unfolding starts_with
+stands_empty [] line e = stands_at [] line 0 refl
+stands_empty (b ∷ bs) line e = absurd (omega arith)
 
 pub stands_nowhere : (literal line : List ℕ)
     → ((j : ℕ) → j ≤ length line → starts_with literal (drop j line) ≡ false) → stands literal line ≡ false

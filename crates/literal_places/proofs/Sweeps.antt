@@ -1,5 +1,5 @@
 -- What the search learns of places: a block without a hit, and places added to those already seen.
-use Prim.Native.Nat.{ℕ, zero, suc, ◌+◌, ◌-◌, ◌≤◌, ◌<◌}
+use Prim.Native.Nat.{ℕ, zero, suc, ◌+◌, ◌-◌, ◌<◌}
 use mathlib.Core.Path.{◌≡◌, refl, sym, ◌∙◌}
 use mathlib.Core.Bool.{Bool, true, false, ◌||◌, false≢true, true≢false}
 use mathlib.Core.List.{List}
@@ -55,12 +55,6 @@ miss {literal} {line} {first} {second} at n fit told left j l m = go (starts_wit
         (byte second fit.second_in e))
     go false e = refl
 
--- how far a sweep of the places from `from` up to `to` has come
-pub record SweptTo (literal line : List ℕ) (from i to : ℕ) : Type 0 where
-  pub after : from ≤ i
-  pub within : i ≤ to
-  pub none : Nowhere literal line from i
-
 -- a place that was compared
 pub no_start : (literal line : List ℕ) (at : ℕ) → starts_with literal (drop at line) ≡ false → Nowhere literal line at (at + 1)
 no_start literal line at h j l m =
@@ -70,18 +64,9 @@ no_start literal line at h j l m =
 pub swept_found : {literal line : List ℕ} {from to : ℕ} → stands literal line ≡ true → Swept literal line from to true
 swept_found h = record { found = λ e. h; none = λ e. absurd (true≢false e) }
 
-pub swept_start : {literal line : List ℕ} {from to : ℕ} → from ≤ to → SweptTo literal line from from to
-swept_start l = record { after = omega arith; within = l; none = λ j a b. absurd (omega arith) }
+-- places after those already seen
+pub nowhere_more : (literal line : List ℕ) (from i to : ℕ) → Nowhere literal line from i → Nowhere literal line i to → Nowhere literal line from to
+nowhere_more literal line from i to seen more j l m = elim (dec_lt j i) [ yes k ↦ seen j l k | no k ↦ more j (omega arith) m ]
 
-module _ {literal line : List ℕ} {from i to : ℕ} where
-  pub swept_more : (at n : ℕ) → SweptTo literal line from i to → from ≤ at → at ≤ i → at + n ≤ to → Nowhere literal line at (at + n)
-      → SweptTo literal line from (at + n) to
-  swept_more at n seen l m r block =
-      record { after = omega arith; within = r; none = λ j a b. elim (dec_lt j i) [ yes k ↦ seen.none j a k | no k ↦ block j (omega arith) b ] }
-
-  -- one place more
-  pub swept_one : SweptTo literal line from i to → i < to → Nowhere literal line i (i + 1) → SweptTo literal line from (i + 1) to
-  swept_one seen l block = swept_more i 1 seen seen.after (omega arith) (omega arith) block
-
-  pub swept_none : SweptTo literal line from i to → to ≤ i → Swept literal line from to false
-  swept_none seen l = record { found = λ e. absurd (false≢true e); none = λ e j a b. seen.none j a (omega arith) }
+pub swept_none : {literal line : List ℕ} {from to : ℕ} → Nowhere literal line from to → Swept literal line from to false
+swept_none h = record { found = λ e. absurd (false≢true e); none = λ e. h }

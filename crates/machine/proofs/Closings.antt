@@ -10,7 +10,7 @@ use Rattle.definition.proofs.Terminator.{lines_head}
 use Rattle.session.specs.declared.Input.{Input}
 use Rattle.session.specs.declared.Input.TheVariants.{Open, Ended, QuitFound}
 use Rattle.session.specs.declared.Session.{Session}
-use Rattle.session.specs.Calls.{offered, recorded}
+use Rattle.session.specs.Calls.{offered, offer_result, recorded}
 use Rattle.session.specs.Held.{held_bytes, is_open, unanswered, waits}
 use Rattle.promises.specs.Promises.{answers_of}
 use Rattle.session.specs.Sound.{taken_bytes}
@@ -117,7 +117,7 @@ module _ (p : Program) (input : List ℕ) (how : Ending) (s : Session) (w rest :
 
   pub prints_no_room : (k : ℕ) → (offered s w (take k rest)).refusal ≡ 3
       → Prints p c s.places.window input how (said p c input before ++ p.refuses 3)
-  unfolding offered
+  unfolding offer_result offered
   prints_no_room k e =
       let o = (offer_only s w (take k rest) _ (offer_case s w (take k rest))).2 e in
       let idle = not_idle s (take k rest) o.0.1 in
@@ -126,7 +126,7 @@ module _ (p : Program) (input : List ℕ) (how : Ending) (s : Session) (w rest :
 
   pub prints_too_large : (k : ℕ) → waits s w ≡ false → (offered s w (take k rest)).refusal ≡ 5
       → Prints p c s.places.window input how (said p c input before ++ p.refuses 5)
-  unfolding offered
+  unfolding offer_result offered
   prints_too_large k none e =
       let o = (offer_only s w (take k rest) _ (offer_case s w (take k rest))).1 e in
       let idle = not_idle s (take k rest) o.0.1 in

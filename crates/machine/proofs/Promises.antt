@@ -1,12 +1,11 @@
 -- The promises of specs/Promises.antt.
+use Rattle.definition.specs.Numbers.{cause_number}
 use Rattle.std.proofs.Common.{◌≡◌, ℕ, ◌+◌, ◌*◌, ◌≤◌, Bool, true, false, ◌⊎◌, List, [], ◌∷◌, ◌++◌, map, length, sym, refl, ap, ◌∙◌, subst, inl, inr, ⊎_elim, append-nil, arith, length-append}
 use mathlib.Core.List.{flatten}
 use Rattle.definition.specs.declared.Going.{Going}
 use Rattle.definition.specs.declared.Going.TheVariants.{On, LimitMet, NonmatchMet}
-use Rattle.definition.specs.declared.Place.{Place}
-use Rattle.definition.specs.declared.Place.TheVariants.{Nowhere, At}
 use Rattle.definition.specs.declared.Settings.{Settings}
-use Rattle.definition.specs.Definition.{binary_place, bytes_of, cause_of, end_of, end_record, end_with, gone, gone_lines, quit_met, rows_of}
+use Rattle.definition.specs.Definition.{cause_of, end_of, end_record, gone, gone_lines, quit_met, rows_of}
 use Rattle.definition.specs.State.{State, begun, rows, state}
 use Rattle.definition.specs.Text.{lines, text}
 use Rattle.definition.proofs.Kept.{rows_append, rows_stopped, state_append, state_stopped}
@@ -109,11 +108,7 @@ rows_printed p printRow h = (
 
 -- # The cause
 
-cause_is : (bytes count matches cause : ℕ) (place : Place) → (end_with bytes count matches cause place).cause ≡ cause
-cause_is bytes count matches cause Nowhere = refl
-cause_is bytes count matches cause (At n) = refl
-
-cause_some : (g : Going) (quit : Bool) → (quit ≡ true) ⊎ (g ≡ On → ⊥) → cause_of g quit ≡ 0 → ⊥
+cause_some : (g : Going) (quit : Bool) → (quit ≡ true) ⊎ (g ≡ On → ⊥) → cause_number (cause_of g quit) ≡ 0 → ⊥
 cause_some On true h e = omega (arith, e)
 cause_some On false (inl h) e = let z : ◌≡◌ {A = ℕ} 0 1 = cc in omega (arith, z)
 cause_some On false (inr h) e = h refl
@@ -136,12 +131,7 @@ cause_told c input answers window how before later g h unended e =
     inr (λ z. off (ap (λ (s : State). s.going) (sym stays) ∙ sym (same_lines c answers (lines c.terminator (text c input))).1 ∙ z)))
     h
     in
-    let cause = cause_of end.going quit in
-    cause_some end.going quit ended
-    (sym
-    (cause_is (bytes_of end.seen) (length end.seen) end.matches cause
-    (binary_place c.binary c.terminator cause (bytes_of end.seen) input))
-    ∙ e)
+    cause_some end.going quit ended e
 
 -- # Read to its end
 

@@ -5,7 +5,7 @@ use Rattle.definition.specs.declared.Row.{Row}
 use Rattle.definition.specs.declared.Settings.{Settings}
 use Rattle.session.specs.declared.Input.TheVariants.{Open, Ended}
 use Rattle.session.specs.declared.Session.{Session}
-use Rattle.session.specs.Calls.{told, told_session}
+use Rattle.session.specs.Calls.{telling, tell_result, told, told_session}
 use Rattle.session.specs.Held.{waits}
 use Rattle.promises.specs.Promises.{answers_of}
 use Rattle.session.proofs.Agree.{agrees_of}
@@ -60,7 +60,7 @@ module _ (p : Program) (c : Settings) (input : List ℕ) (how : Ending) where
 
   told_input : (s : Session) (w rest : List ℕ) (count : ℕ) (given : List Row) → Now p c input how s w rest count given → s.places.input ≡ Open → s.walk.going ≡ On
       → ((told s).session.walk.settings ≡ s.walk.settings) × ((told s).session.places.window ≡ s.places.window) × ((told s).session.places.input ≡ Ended)
-  unfolding told told_session
+  unfolding tell_result telling told told_session
   told_input s w rest count given n e g = rw (agrees_of s n.inv.agree, g, e) (refl, refl, refl)
 
   told_now : (s : Session) (w : List ℕ) (count : ℕ) (given : List Row) → Now p c input how s w [] count given → s.places.input ≡ Open → s.walk.going ≡ On

@@ -1,5 +1,6 @@
 -- What a turn does at a moment of a run: it goes on and what is left gets lighter, or it prints what must be printed and is over, or it
 -- wants a read, and then nothing is at hand.
+use Rattle.definition.specs.declared.Refusal.TheVariants.{Unsound}
 use Rattle.std.proofs.Common.{◌≡◌, ℕ, ◌+◌, ◌*◌, ◌<◌, ◌≤◌, Bool, true, false, List, [], ◌∷◌, ◌++◌, length, take, drop, sym, refl, ap, ◌∙◌, subst, ⊎_elim, append-nil, arith}
 use lib.Seq.{drop-append-le, take-append_seam}
 use Rattle.definition.specs.declared.Going.TheVariants.{On}
@@ -14,7 +15,7 @@ use Rattle.driver_core.proofs.Keeps.{is_on_lem}
 use Rattle.driver_core.proofs.Laws.{before_allowed}
 use Rattle.session.specs.declared.Input.TheVariants.{Open, Ended}
 use Rattle.session.specs.declared.Session.{Session}
-use Rattle.session.specs.Calls.{Idle, OfferDecision, OfferRefused, Take, answer_rows, answer_session, offer_answer, offered, offered_window, offering, places_next, recorded, shown_line, stored}
+use Rattle.session.specs.Calls.{answer_rows, answer_session, offered, offered_window, offering, offer_answer, offer_result, places_next, recorded, shown_line, stored, Idle, OfferDecision, OfferRefused, Take}
 use Rattle.session.specs.Held.{is_open, line_length, unanswered, waits}
 use Rattle.promises.specs.Promises.{answers_of}
 use Rattle.promises.proofs.Carry.{answer_falls, ends_now, held_ends, is_open_lem, nothing_held, offer_falls, record_served, stopped_ends, waiting_now, weight}
@@ -116,7 +117,7 @@ module _ (p : Program) (input : List ℕ) (how : Ending) (s : Session) (w rest f
 
   -- # None waits
 
-  fed_turn : waits s w ≡ false → turns p (at s w rest) ≡ feeds p (at s w rest) 6
+  fed_turn : waits s w ≡ false → turns p (at s w rest) ≡ feeds p (at s w rest) Unsound
   fed_turn v = turn_feeds p s w rest (λ hit. answer_is s w table_size hit _ (none (sound_now input answers s w (rest ++ future) count given i) v))
 
   did_end : waits s w ≡ false → (recorded s).refusal ≡ 0 → Does
@@ -134,7 +135,7 @@ module _ (p : Program) (input : List ℕ) (how : Ending) (s : Session) (w rest f
 
   offered_now : s.places.input ≡ Open
       → Now p c input how (offered s w rest).session (offered_window s w rest) (drop (offered s w rest).taken rest ++ future) count given
-  unfolding offered
+  unfolding offer_result offered
   offered_now e =
       let piece = take-append_seam rest future in
       let j = inv_offer input answers s w (rest ++ future) count given i (length rest) in
@@ -149,7 +150,7 @@ module _ (p : Program) (input : List ℕ) (how : Ending) (s : Session) (w rest f
       }
 
   did_offer : waits s w ≡ false → ((recorded s).refusal ≡ 0 → ⊥) → 0 < length rest → Does
-  unfolding offered
+  unfolding offer_result offered
   did_offer v e l =
       let open-on = still_open v e in
       let piece = take-append_seam rest future in

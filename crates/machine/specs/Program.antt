@@ -1,15 +1,18 @@
 -- A program over the driver: it answers the waiting line by a matcher and prints what that brings; where none waits it prints the end
 -- record, offers what is left of what was read, or reads.
-use Rattle.std.specs.Prelude.{ℕ, ◌+◌, ◌*◌, Bool, cond, not, List, [], ◌++◌, length, drop, ◌==◌}
+use Rattle.std.specs.Prelude.{ℕ, ◌+◌, ◌*◌, Bool, cond, List, [], ◌++◌, length, drop, ◌==◌, Result, Ok, Err}
 use Rattle.definition.specs.declared.End.{End}
+use Rattle.definition.specs.declared.Refusal.{Refusal}
 use Rattle.definition.specs.declared.Row.{Row}
 use Rattle.definition.specs.declared.Settings.{Settings}
 use Rattle.definition.specs.Bounds.{max_context}
+use Rattle.definition.specs.Numbers.{refusal_number}
 use Rattle.definition.specs.Rows.{row_size}
 use Rattle.driver_core.specs.Answer.{AnswerDecision, AnswerRefused, Give}
-use Rattle.session.specs.declared.OfferOutcome.{OfferOutcome}
+use Rattle.session.specs.declared.Offered.{Offered}
+use Rattle.session.specs.declared.Refused.{Refused}
 use Rattle.session.specs.declared.Session.{Session}
-use Rattle.session.specs.Calls.{answer_rows, answer_session, answering, offered, offered_window, opened, recorded, shown_line, told}
+use Rattle.session.specs.Calls.{answer_rows, answer_session, answering, offer_result, offered_window, opened, record_result, shown_line, tell_result}
 use Rattle.machine.specs.declared.Fed.{Fed}
 use Rattle.machine.specs.declared.Next.{Next}
 use Rattle.machine.specs.declared.Next.TheVariants.{Goes, Wants, Refuses, Ends}
@@ -17,33 +20,44 @@ use Rattle.machine.specs.Machine.{Machine, Read, Turn, ended, ends, failed, goes
 
 -- # Where no line waits
 
-abbrev pub stays : Session → Next → Fed
+abbrev pub stays : Session → Next → Fed Session
 stays s next = record { session = s; taken = 0; next = next }
 
-abbrev pub fed_by : Session → OfferOutcome → Fed
-fed_by s o =
-    cond (o.refusal == 0) (record { session = o.session; taken = o.taken; next = Goes }) (stays s (Refuses o.refusal))
+abbrev pub fed_by : Session → Result (Offered Session) (Refused Session) → Fed Session
+fed_by s (Ok o) = record { session = o.next; taken = o.taken; next = Goes }
+fed_by s (Err r) = stays s (Refuses r.refusal)
 
--- An answer was refused. By 6, no line waits: the end record is printed where it is served; else what is at hand is offered, and
--- where nothing is, more is read.
-unfoldable pub fed : Session → ℕ → List ℕ → List ℕ → Fed
+-- what is at hand is offered, and where nothing is, more is read
+abbrev pub fed_more : Session → List ℕ → List ℕ → Fed Session
+fed_more s w piece = cond (length piece == 0) (stays s Wants) (fed_by s (offer_result s w piece))
+
+abbrev pub fed_more_window : Session → List ℕ → List ℕ → List ℕ
+fed_more_window s w piece = cond (length piece == 0) w (offered_window s w piece)
+
+-- but the end record is printed where it is served
+abbrev pub fed_on : Result End Refusal → Session → List ℕ → List ℕ → Fed Session
+fed_on (Ok end) s w piece = stays s (Ends end)
+fed_on (Err k) s w piece = fed_more s w piece
+
+abbrev pub fed_on_window : Result End Refusal → Session → List ℕ → List ℕ → List ℕ
+fed_on_window (Ok end) s w piece = w
+fed_on_window (Err k) s w piece = fed_more_window s w piece
+
+-- An answer was refused. By 6, no line waits; any other refusal is told.
+unfoldable pub fed : Session → Refusal → List ℕ → List ℕ → Fed Session
 fed s refusal w piece =
-    cond (not (refusal == 6)) (stays s (Refuses refusal))
-    (cond ((recorded s).refusal == 0) (stays s (Ends (recorded s).end))
-    (cond (length piece == 0) (stays s Wants)
-    (fed_by s (offered s w piece))))
+    cond (refusal_number refusal == 6) (fed_on (record_result s) s w piece) (stays s (Refuses refusal))
 
-unfoldable pub fed_window : Session → ℕ → List ℕ → List ℕ → List ℕ
-fed_window s refusal w piece =
-    cond (not (refusal == 6)) w
-    (cond ((recorded s).refusal == 0) w
-    (cond (length piece == 0) w
-    (offered_window s w piece)))
+unfoldable pub fed_window : Session → Refusal → List ℕ → List ℕ → List ℕ
+fed_window s refusal w piece = cond (refusal_number refusal == 6) (fed_on_window (record_result s) s w piece) w
 
 -- the end is told
-unfoldable pub fed_end : Session → Fed
-fed_end s =
-    cond ((told s).refusal == 0) (record { session = (told s).session; taken = 0; next = Goes }) (stays s (Refuses (told s).refusal))
+abbrev pub fed_told : Session → Result Session (Refused Session) → Fed Session
+fed_told s (Ok t) = record { session = t; taken = 0; next = Goes }
+fed_told s (Err r) = stays s (Refuses r.refusal)
+
+unfoldable pub fed_end : Session → Fed Session
+fed_end s = fed_told s (tell_result s)
 
 -- # The machine
 
@@ -53,6 +67,7 @@ pub record Program : Type 0 where
   -- what is printed of a line, as it was shown, that brought some rows
   pub says : List ℕ → List Row → List ℕ
   pub closes : End → List ℕ
+  -- what is printed of a refusal, by its number
   pub refuses : ℕ → List ℕ
   pub fails : List ℕ
 
@@ -69,10 +84,10 @@ table_size = row_size * (max_context + 2)
 abbrev pub onward : Next → Program → Standing → Turn Standing
 onward Goes p st = goes [] st
 onward Wants p st = wants st
-onward (Refuses k) p st = ends (p.refuses k)
+onward (Refuses k) p st = ends (p.refuses (refusal_number k))
 onward (Ends end) p st = ends (p.closes end)
 
-unfoldable pub feeds : Program → Standing → ℕ → Turn Standing
+unfoldable pub feeds : Program → Standing → Refusal → Turn Standing
 feeds p st k =
     let f = fed st.session k st.window st.rest in
     onward f.next p

@@ -2,22 +2,21 @@
 // lists, and with it what every such program is promised.
 #![tactic(auto)]
 
-use definition::End;
-use session::Session;
+use definition::{End, Refusal};
 
 // What comes next where no line waits: go on, read more, tell a refusal, or tell the end record.
 #[derive(Clone, Copy)]
 pub enum Next {
     Goes,
     Wants,
-    Refuses(u64),
+    Refuses(Refusal),
     Ends(End),
 }
 
-// The session once it was fed, and how many of the bytes at hand it took.
+// A session, or what wraps one, once it was fed, and how many of the bytes at hand it took.
 #[derive(Clone, Copy)]
-pub struct Fed {
-    pub session: Session,
+pub struct Fed<S> {
+    pub session: S,
     pub taken: usize,
     pub next: Next,
 }

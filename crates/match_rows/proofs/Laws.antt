@@ -1,8 +1,8 @@
 -- Laws of the rows of a match: where its before-context starts and how many lines it has, and the room for its rows.
-use Rattle.std.proofs.Common.{◌≡◌, ℕ, zero, suc, ◌+◌, ◌-◌, ◌*◌, ◌<◌, ◌≤◌, Bool, true, false, cond, ◌&&◌, ltb, List, [], ◌∷◌, length, take, drop, sym, refl, ap, ◌∙◌, arith, length-append, length-drop, length-take, length-take-le, take_all, le-ltb, lt-ltb}
+use Rattle.definition.specs.Bounds.{contextual}
+use Rattle.std.proofs.Common.{◌≡◌, ℕ, zero, suc, ◌+◌, ◌-◌, ◌*◌, ◌<◌, ◌≤◌, ltb, List, [], ◌∷◌, length, take, drop, sym, refl, ap, ◌∙◌, arith, length-append, length-drop, length-take, length-take-le, take_all, le-ltb, lt-ltb, Bool, true, false, cond, ◌&&◌}
 use mathlib.Core.List.{flatten}
 use native.Mathlib.Decide.{dec_lt}
-use Rattle.definition.specs.Bounds.{contextual}
 use Rattle.definition.specs.Definition.{last_of}
 use Rattle.definition.specs.Rows.{break, flat, row_size}
 use Rattle.definition.specs.Text.{first_length, lines, part}
@@ -15,6 +15,9 @@ use Rattle.match_rows.specs.declared.Before.{Before}
 use Rattle.match_rows.specs.MatchTable.{Placing, before_of, break_table, gap_before}
 
 -- # The before-context
+
+pub length_part : (from : ℕ) (xs : List ℕ) → length (part from (length xs) xs) ≡ length xs - from
+length_part from xs = omega (arith, length-take (length xs - from) (drop from xs), length-drop from xs)
 
 -- lines have bytes
 some_bytes : (j t : ℕ) (xs : List ℕ) → 0 < j → 0 < length xs → 0 < length (flatten (take j (lines t xs)))
@@ -40,17 +43,14 @@ module _ (k : Walk) (since : List ℕ) where
   abbrev from : ℕ
   from = (before_of k since).from
 
-  abbrev count : ℕ
-  count = (before_of k since).lines
-
   pub from_le : (from ≤ length since) × (length (flatten before) ≡ length since - from)
-  unfolding before_of last_start
+  unfolding last_start
   from_le =
       let last = flatten_last k.settings.before k.settings.terminator since in
       (omega arith, omega (arith, last.0))
 
   before_part : part from (length since) since ≡ flatten before
-  unfolding before_of last_start
+  unfolding last_start
   before_part =
       let at = length since - length (flatten before) in
       take_all (length since - at) (drop at since) (omega (arith, length-drop at since))
@@ -62,7 +62,7 @@ module _ (k : Walk) (since : List ℕ) where
       ap (lines k.settings.terminator) before_part ∙ lines_drop (length all - k.settings.before) k.settings.terminator since
 
   left_over : k.settings.before < length all → 0 < from
-  unfolding before_of last_start
+  unfolding last_start
   left_over more =
       let t = k.settings.terminator in
       let j = length all - k.settings.before in
@@ -77,7 +77,7 @@ module _ (k : Walk) (since : List ℕ) where
       )
 
   all_before : length all ≤ k.settings.before → from ≤ 0
-  unfolding before_of last_start last_of
+  unfolding last_start last_of
   all_before few =
       let t = k.settings.terminator in
       let z : length all - k.settings.before ≡ 0 = omega arith in
@@ -91,14 +91,12 @@ module _ (k : Walk) (since : List ℕ) where
     | no none ↦ le-ltb 0 from (all_before (omega arith)) ∙ sym (le-ltb k.settings.before (length all) (omega arith))
   ]
 
-  pub lines_size : length before ≡ count
-  unfolding before_of
+  pub lines_size : length before ≡ (before_of k since).lines
   lines_size = refl
 
 -- # The break, and the room
 
 pub gap_most : (k : Walk) (from : ℕ) → gap_before k from ≤ 1
-unfolding gap_before
 gap_most k from = go (contextual k.settings && k.given && ltb 0 from)
   where
     go : (b : Bool) → cond b 1 0 ≤ 1
@@ -106,7 +104,6 @@ gap_most k from = go (contextual k.settings && k.given && ltb 0 from)
     go false = omega arith
 
 length_break : (gap : ℕ) (table : List ℕ) → row_size * gap ≤ length table → length (break_table gap table) ≡ length table
-unfolding break_table
 length_break zero table h = refl
 length_break (suc gap) table h = rw (lt-ltb 0 (suc gap) (omega arith)) (length_put_at 0 (flat break) table (omega arith))
 
@@ -116,15 +113,14 @@ module _ (k : Walk) (since : List ℕ) (len : ℕ) (b : Before) (gap : ℕ) (tab
   placing_from = rw p.before_is (from_le k since).0
 
   placing_lines : length (lines k.settings.terminator (part b.from (length since) since)) ≡ b.lines
-  placing_lines = rw p.before_is (ap length (before_lines k since) ∙ lines_size k since)
+  placing_lines = rw p.before_is (ap length (before_lines k since))
 
   pub placing_fits : BeforeFits (length (break_table gap table)) (row_size * gap) (length (part b.from (length since) since))
-      (length (lines k.settings.terminator (part b.from (length since) since))) (k.bytes - (length since - b.from)) (k.lines + 1 - b.lines)
+      (length (lines k.settings.terminator (part b.from (length since) since))) (k.bytes - length (part b.from (length since) since)) (k.lines + 1 - b.lines)
   placing_fits =
       let size = length_break gap table (omega (arith, p.room)) in
-      let bytes = length-take (length since - b.from) (drop b.from since) in
       record {
         room = omega (arith, size, placing_lines, p.room);
-        offsets = omega (arith, bytes, placing_from, length-drop b.from since, p.agree);
+        offsets = omega (arith, length_part b.from since, p.agree);
         numbers = omega (arith, placing_lines, p.numbered, p.agree);
       }

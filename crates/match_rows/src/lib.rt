@@ -8,7 +8,7 @@ ghost use Rattle.definition.specs.Bounds.{max_input};
 ghost use Rattle.definition.specs.Rows.{row_size};
 ghost use Rattle.match_rows.specs.MatchTable.{Placing, before_of, break_table, gap_before, line_row, match_table};
 
-use definition::Row;
+use definition::{Kind, Row};
 use driver_core::Walk;
 
 // The lines that come as before-context: where they start in the bytes since the last line with a row, and how many they
@@ -26,21 +26,17 @@ pub fn before_lines(walk: Walk, since: &[u8]) -> Before
     let c = walk.settings;
     let from = lines::preceding(since, c.terminator, c.before);
     Before {
-        from: from,
+        from,
         lines: lines::count(&since[from..], c.terminator),
     }
 }
 
-// How many breaks come before the first row of a match: one where lines are left over before it.
+// How many breaks come before the first row of a match: one where lines are left over before it. A count, since those who ask count
+// rows with it.
 pub fn gap_before(walk: Walk, from: usize) -> usize
     ensures { result ≡ gap_before walk from }
 {
-    let c = walk.settings;
-    if agreeing::has_context(c) & walk.given & (0 < from) {
-        1
-    } else {
-        0
-    }
+    usize::from(agreeing::has_context(walk.settings) & walk.given & (0 < from))
 }
 
 pub fn put_match(
@@ -55,17 +51,16 @@ pub fn put_match(
     ensures { table.new ≡ match_table walk since.now length before gap table.old }
 {
     let c = walk.settings;
-    let from = before.from;
-    let part = &since[from..];
+    let part = &since[before.from..];
     let at = definition::ROW * gap;
-    let offset = walk.bytes - ((since.len() - from) as u64);
+    let offset = walk.bytes - (part.len() as u64);
     let number = walk.lines + 1 - (before.lines as u64);
     put_break(table, gap);
     rows::put_before(table, at, part, c.terminator, offset, number);
     rows::put_row(
         table,
         at + definition::ROW * before.lines,
-        line_row(walk, length, rows::MATCH),
+        line_row(walk, length, Kind::Match),
     );
 }
 
@@ -75,7 +70,7 @@ fn put_break(table: &mut [u64], gap: usize)
 {
     if 0 < gap {
         let row = Row {
-            kind: rows::BREAK,
+            kind: Kind::Break,
             offset: 0,
             length: 0,
             number: 0,
@@ -85,7 +80,7 @@ fn put_break(table: &mut [u64], gap: usize)
 }
 
 // A line's own row, of any kind.
-pub fn line_row(walk: Walk, length: usize, kind: u64) -> Row
+pub fn line_row(walk: Walk, length: usize, kind: Kind) -> Row
     requires { walk.lines ≤ max_input }
     ensures { result ≡ line_row kind walk length }
 {

@@ -1,12 +1,17 @@
 -- Laws of offering: the decision of each path, and what is stored.
-use Rattle.std.proofs.Common.{◌≡◌, ℕ, ◌-◌, ◌<◌, ◌≤◌, min, Bool, true, false, not, ◌&&◌, eqb, ltb, ◌≢◌, ◌⊎◌, List, length, take, sym, refl, ap, ◌∙◌, subst, inl, inr, arith, length-take-le, ne_eqb, eqb-true}
+use Rattle.driver_core.specs.Walk.{line_ahead, waits_ahead}
+use Rattle.driver_core.specs.declared.Walk.{Walk}
+use Rattle.definition.specs.declared.Refusal.{Refusal}
+use Rattle.std.specs.Prelude.{Result, Option, Some, None, Ok, Err, is_some}
+use Rattle.std.proofs.Common.{◌≡◌, ℕ, ◌-◌, ◌<◌, ◌≤◌, min, Bool, true, false, not, ◌&&◌, eqb, ltb, ◌≢◌, ◌⊎◌, List, length, take, sym, refl, ap, ◌∙◌, subst, inl, inr, arith, length-take-le, ne_eqb, eqb-true, cond, true≢false}
 use mathlib.Core.Bool.{and-eq-true_iff, false≢true}
 use native.Mathlib.Decide.{dec_le, dec_lt}
 use borrow.Author.Tests.{eqb-false, not-true}
+use Rattle.definition.specs.declared.Refusal.TheVariants.{SizeTaken, WindowFull}
 use Rattle.definition.specs.declared.Binary.{Binary}
 use Rattle.definition.specs.declared.Binary.TheVariants.{Ignore, Quit, Convert}
 use Rattle.definition.specs.Bounds.{max_input}
-use Rattle.definition.specs.Text.{put_at, text, text_under}
+use Rattle.definition.specs.Text.{put_at, text, text_under, first_length}
 use Rattle.definition.proofs.Uncut.{length_replaced, up_to_take}
 use Rattle.line_buffer.specs.Buffer.{converted, rolled}
 use Rattle.line_buffer.proofs.Laws.{roll_take_in}
@@ -20,7 +25,7 @@ use Rattle.session.proofs.Parts.{quit_le}
 use Rattle.held.proofs.Laws.{held_from, sound_of}
 use Rattle.reaching.specs.declared.Reach.{Reach}
 use Rattle.reaching.specs.Reached.{reached}
-use Rattle.offering.specs.declared.Plan.TheVariants.{Refuse, Nothing, Store}
+use Rattle.offering.specs.declared.Plan.{Plan}
 use Rattle.offering.specs.Plan.{Storing, Sounded, plan_of, planned}
 
 -- # The decision of each path
@@ -60,6 +65,27 @@ front q room len = elim (dec_le q 0) [
 some : {n : ℕ} → n ≢ 0 → 0 < n
 some {n} h = elim (dec_lt 0 n) [ yes k ↦ k | no k ↦ absurd (h (omega arith)) ]
 
+-- where no line is ahead none waits
+pub none_ahead : (k : Walk) (more : Bool) (ahead : List ℕ) (none : Bool) → is_some (line_ahead k more ahead) ≡ not none
+    → none ≡ (not (waits_ahead k more ahead) && true)
+unfolding line_ahead
+none_ahead k more ahead none = go (waits_ahead k more ahead) none
+  where
+    go : (b n : Bool) → is_some (cond b (Some (first_length k.settings.terminator ahead)) None) ≡ not n → n ≡ (not b && true)
+    go true true e = absurd (true≢false e)
+    go true false e = refl
+    go false true e = refl
+    go false false e = absurd (true≢false (sym e))
+
+abbrev pub refuses : Refusal → Result (Option Plan) Refusal
+refuses k = Err k
+
+abbrev pub nothing : Result (Option Plan) Refusal
+nothing = Ok None
+
+abbrev pub stores : ℕ → ℕ → Bool → Result (Option Plan) Refusal
+stores from n quit = Ok (Some (record { from = from; taken = n; quit = quit }))
+
 module _ (s : Session) (w piece : List ℕ) (from : ℕ) (so : Sounded s w from) (i : idle s piece ≡ false) where
   -- room in the window behind the held part, and in the size
   abbrev free : ℕ
@@ -88,23 +114,23 @@ module _ (s : Session) (w piece : List ℕ) (from : ℕ) (so : Sounded s w from)
   planned_from : (o : OfferDecision) → OfferCase s w piece o → plan_of o from ≡ planned s w piece
   planned_from o h = ap (plan_of o) so.from_is ∙ planned_is s w piece o h
 
-  pub path_front : (reach.quit && eqb reach.taken 0) ≡ true → Store from 0 true ≡ planned s w piece
+  pub path_front : (reach.quit && eqb reach.taken 0) ≡ true → stores from 0 true ≡ planned s w piece
   path_front h =
       let both = (and-eq-true_iff reach.quit (eqb reach.taken 0)).0 h in
       let none : reach.taken ≡ 0 = eqb-true reach.taken 0 both.1 in
       rw (taking_is, none, both.0) at (planned_from (taking s w piece) (quits sounds i (sym front_is ∙ h)))
 
-  pub path_size : (reach.quit && eqb reach.taken 0) ≡ false → left ≡ 0 → Refuse 5 ≡ planned s w piece
-  path_size h k = planned_from (OfferRefused 5) (sized (sounds, i, sym front_is ∙ h) (omega arith))
+  pub path_size : (reach.quit && eqb reach.taken 0) ≡ false → left ≡ 0 → refuses SizeTaken ≡ planned s w piece
+  path_size h k = planned_from (OfferRefused SizeTaken) (sized (sounds, i, sym front_is ∙ h) (omega arith))
 
-  pub path_stuck : (reach.quit && eqb reach.taken 0) ≡ false → left ≢ 0 → (not (waits s w) && eqb free 0) ≡ true → Refuse 3 ≡ planned s w piece
+  pub path_stuck : (reach.quit && eqb reach.taken 0) ≡ false → left ≢ 0 → (not (waits s w) && eqb free 0) ≡ true → refuses WindowFull ≡ planned s w piece
   path_stuck h k j =
       let both = (and-eq-true_iff (not (waits s w)) (eqb free 0)).0 j in
-      planned_from (OfferRefused 3)
+      planned_from (OfferRefused WindowFull)
       (full (sounds, i, sym front_is ∙ h) (omega (arith, some k)) (not-true (waits s w) both.0) (omega (arith, free_is, eqb-true free 0 both.1)))
 
   pub path_take : (reach.quit && eqb reach.taken 0) ≡ false → left ≢ 0 → (not (waits s w) && eqb free 0) ≡ false
-      → Store from reach.taken reach.quit ≡ planned s w piece
+      → stores from reach.taken reach.quit ≡ planned s w piece
   path_take h k j =
       rw taking_is at (planned_from (taking s w piece) (takes (sounds, i, sym front_is ∙ h) (omega (arith, some k)) (room (waits s w) (eqb free 0) refl refl j)))
     where
@@ -115,52 +141,40 @@ module _ (s : Session) (w piece : List ℕ) (from : ℕ) (so : Sounded s w from)
 
 -- # What is stored
 
-plan_store : (o : OfferDecision) (from at n : ℕ) (quit : Bool) → Store at n quit ≡ plan_of o from → (o ≡ Take n quit) × (at ≡ from)
-plan_store (OfferRefused k) from at n quit h =
-    let z : ◌≡◌ {A = ℕ} 0 1 = cc in
-    absurd (omega arith)
-plan_store Idle from at n quit h =
-    let z : ◌≡◌ {A = ℕ} 0 1 = cc in
-    absurd (omega arith)
-plan_store (Take m q) from at n quit h = (cc, cc)
+plan_store : (o : OfferDecision) (from : ℕ) (p : Plan) → Ok (Some p) ≡ plan_of o from → (o ≡ Take p.taken p.quit) × (p.from ≡ from)
+plan_store (OfferRefused k) from p h = absurd cc
+plan_store Idle from p h = absurd cc
+plan_store (Take m q) from p h = (cc, cc)
 
-plan_refuse : (o : OfferDecision) (from k : ℕ) → Refuse k ≡ plan_of o from → o ≡ OfferRefused k
+plan_refuse : (o : OfferDecision) (from : ℕ) (k : Refusal) → refuses k ≡ plan_of o from → o ≡ OfferRefused k
 plan_refuse (OfferRefused m) from k h = cc
-plan_refuse Idle from k h =
-    let z : ◌≡◌ {A = ℕ} 0 1 = cc in
-    absurd (omega arith)
-plan_refuse (Take m q) from k h =
-    let z : ◌≡◌ {A = ℕ} 0 1 = cc in
-    absurd (omega arith)
+plan_refuse Idle from k h = absurd cc
+plan_refuse (Take m q) from k h = absurd cc
 
-plan_nothing : (o : OfferDecision) (from : ℕ) → Nothing ≡ plan_of o from → o ≡ Idle
-plan_nothing (OfferRefused m) from h =
-    let z : ◌≡◌ {A = ℕ} 0 1 = cc in
-    absurd (omega arith)
+plan_nothing : (o : OfferDecision) (from : ℕ) → nothing ≡ plan_of o from → o ≡ Idle
+plan_nothing (OfferRefused m) from h = absurd cc
 plan_nothing Idle from h = refl
-plan_nothing (Take m q) from h =
-    let z : ◌≡◌ {A = ℕ} 0 1 = cc in
-    absurd (omega arith)
+plan_nothing (Take m q) from h = absurd cc
 
 module _ (s : Session) (w piece : List ℕ) where
-  pub refused_is : (k : ℕ) → Refuse k ≡ planned s w piece → offering s w piece ≡ OfferRefused k
+  pub refused_is : (k : Refusal) → refuses k ≡ planned s w piece → offering s w piece ≡ OfferRefused k
   unfolding planned
   refused_is k h = plan_refuse (offering s w piece) (kept_from s w) k h
 
-  pub nothing_is : Nothing ≡ planned s w piece → offering s w piece ≡ Idle
+  pub nothing_is : nothing ≡ planned s w piece → offering s w piece ≡ Idle
   unfolding planned
   nothing_is h = plan_nothing (offering s w piece) (kept_from s w) h
 
-  pub store_is : (from n : ℕ) (quit : Bool) → Store from n quit ≡ planned s w piece → (offering s w piece ≡ Take n quit) × (from ≡ kept_from s w)
+  pub store_is : (p : Plan) → Ok (Some p) ≡ planned s w piece → (offering s w piece ≡ Take p.taken p.quit) × (p.from ≡ kept_from s w)
   unfolding planned
-  store_is from n quit h = plan_store (offering s w piece) (kept_from s w) from n quit h
+  store_is p h = plan_store (offering s w piece) (kept_from s w) p h
 
   -- what the decision to take says of the places
-  pub storing_of : (from n : ℕ) (quit : Bool) → Store from n quit ≡ planned s w piece → Storing s w piece from n
+  pub storing_of : (p : Plan) → Ok (Some p) ≡ planned s w piece → Storing s w piece p.from p.taken
   unfolding before_quit held_bytes
-  storing_of from n quit h =
-      let is = store_is from n quit h in
-      let taken : Taken s w piece n quit = subst (λ o. TakenIf s w piece o) is.0 (offer_taken s w piece) in
+  storing_of p h =
+      let is = store_is p h in
+      let taken : Taken s w piece p.taken p.quit = subst (λ o. TakenIf s w piece o) is.0 (offer_taken s w piece) in
       let room = taken.room in
       let held = held_from s w taken.agree.places.next_end in
       record {

@@ -1,19 +1,19 @@
 -- The decision of an offer with the place where the kept part starts, and what the parts of the code lean on.
-use Rattle.std.specs.Prelude.{◌≡◌, ℕ, ◌+◌, ◌-◌, ◌≤◌, Bool, not, ◌||◌, List, length, ◌==◌}
+use Rattle.std.specs.Prelude.{◌≡◌, ℕ, ◌+◌, ◌-◌, ◌≤◌, Bool, not, ◌||◌, List, length, ◌==◌, Option, Some, None, Result, Ok, Err}
+use Rattle.definition.specs.declared.Refusal.{Refusal}
 use Rattle.driver_core.specs.Walk.{is_on}
 use Rattle.session.specs.declared.Session.{Session}
 use Rattle.session.specs.Calls.{Idle, OfferDecision, OfferRefused, Take, offering, quit_place}
 use Rattle.session.specs.Held.{is_open, kept_from}
 use Rattle.session.specs.Sound.{Agree}
 use Rattle.offering.specs.declared.Plan.{Plan}
-use Rattle.offering.specs.declared.Plan.TheVariants.{Refuse, Nothing, Store}
 
-abbrev pub plan_of : OfferDecision → ℕ → Plan
-plan_of (OfferRefused k) from = Refuse k
-plan_of Idle from = Nothing
-plan_of (Take n quit) from = Store from n quit
+abbrev pub plan_of : OfferDecision → ℕ → Result (Option Plan) Refusal
+plan_of (OfferRefused k) from = Err k
+plan_of Idle from = Ok None
+plan_of (Take n quit) from = Ok (Some (record { from = from; taken = n; quit = quit }))
 
-unfoldable pub planned : Session → List ℕ → List ℕ → Plan
+unfoldable pub planned : Session → List ℕ → List ℕ → Result (Option Plan) Refusal
 planned s w piece = plan_of (offering s w piece) (kept_from s w)
 
 -- `idle` of a piece's length

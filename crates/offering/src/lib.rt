@@ -3,57 +3,52 @@
 
 ghost use Rattle.std.specs.Prelude.{◌≡◌, ◌≤◌, false, not, ◌&&◌, length, if◌then◌else◌, ◌==◌};
 ghost use Rattle.session.specs.declared.Input.TheVariants.{Open, QuitFound};
-ghost use Rattle.session.specs.Calls.{idle, offered, offered_window, stored, stored_window};
+ghost use Rattle.session.specs.Calls.{idle, offer_result, offered_window, stored, stored_window};
 ghost use Rattle.session.specs.Held.{waits};
 ghost use Rattle.offering.specs.Plan.{Sounded, Storing, idle_at, planned};
 
-use driver_core::LineAhead;
-use session::{Input, OfferOutcome, Places, Session};
+use definition::Refusal;
+use session::{Input, Offered, Places, Refused, Session};
 
-// What an offer does: refuse by a number, change nothing, or move the window's bytes from a place on to its front and
-// take some bytes in, and whether a Quit byte comes next after them.
+// What a served offer moves and takes: the window's bytes from a place on go to its front, so many bytes of the piece come in
+// behind them, and a Quit byte comes next or not.
 #[derive(Clone, Copy)]
-pub enum Plan {
-    Refuse(u64),
-    Nothing,
-    Store(usize, usize, bool),
+pub struct Plan {
+    pub from: usize,
+    pub taken: usize,
+    pub quit: bool,
 }
 
-pub fn offer(s: Session, window: &mut [u8], piece: &[u8]) -> OfferOutcome
-    ensures value { result ≡ offered s window.old piece.now }
+pub fn offer(
+    s: Session,
+    window: &mut [u8],
+    piece: &[u8],
+) -> Result<Offered<Session>, Refused<Session>>
+    ensures value { result ≡ offer_result s window.old piece.now }
     ensures window_after { window.new ≡ offered_window s window.old piece.now }
 {
-    let plan = decide(s, &window[..], piece);
-    match plan {
-        Plan::Refuse(k) => OfferOutcome {
-            refusal: k,
-            taken: 0,
-            session: s,
-        },
-        Plan::Nothing => OfferOutcome {
-            refusal: 0,
-            taken: 0,
-            session: s,
-        },
-        Plan::Store(from, n, quit) => {
-            let next = store(s, window, piece, from, n, quit);
-            OfferOutcome {
-                refusal: 0,
-                taken: n,
-                session: next,
-            }
+    match decide(s, &window[..], piece) {
+        Ok(Some(plan)) => {
+            let next = store(s, window, piece, plan);
+            Ok(Offered {
+                taken: plan.taken,
+                next,
+            })
         }
+        Ok(None) => Ok(Offered { taken: 0, next: s }),
+        Err(refusal) => Err(Refused { refusal, next: s }),
     }
 }
 
-fn decide(s: Session, window: &[u8], piece: &[u8]) -> Plan
+// What is to be stored; nothing where the piece is idle.
+fn decide(s: Session, window: &[u8], piece: &[u8]) -> Result<Option<Plan>, Refusal>
     ensures { result ≡ planned s window.now piece.now }
 {
     if !held::is_sound(s, window.len()) {
-        return Plan::Refuse(6);
+        return Err(Refusal::Unsound);
     }
     if is_idle(s, piece.len()) {
-        return Plan::Nothing;
+        return Ok(None);
     }
     decide_from(s, window, piece, held::kept_from(s, window))
 }
@@ -70,7 +65,12 @@ fn is_idle(s: Session, piece: usize) -> bool
 }
 
 // A piece with bytes while the input is open: what of it comes in behind the part that is held from a place on.
-fn decide_from(s: Session, window: &[u8], piece: &[u8], from: usize) -> Plan
+fn decide_from(
+    s: Session,
+    window: &[u8],
+    piece: &[u8],
+    from: usize,
+) -> Result<Option<Plan>, Refusal>
     requires sounded { Sounded s window.now from }
     requires piece_value { idle s piece.now ≡ false }
     ensures { result ≡ planned s window.now piece.now }
@@ -79,17 +79,25 @@ fn decide_from(s: Session, window: &[u8], piece: &[u8], from: usize) -> Plan
     let binary = c.binary;
     let free = s.places.window - (s.places.end - from);
     let left = definition::MAX_INPUT - held::taken_bytes(s);
-    let reach = reaching::reaches(binary, piece, numbers::least(free, left as usize));
+    let reach = reaching::reaches(binary, piece, free.min(left as usize));
     if reach.quit & (reach.taken == 0) {
-        return Plan::Store(from, 0, true);
+        return Ok(Some(Plan {
+            from,
+            taken: 0,
+            quit: true,
+        }));
     }
     if left == 0 {
-        return Plan::Refuse(5);
+        return Err(Refusal::SizeTaken);
     }
     if is_stuck(s, window, free) {
-        return Plan::Refuse(3);
+        return Err(Refusal::WindowFull);
     }
-    Plan::Store(from, reach.taken, reach.quit)
+    Ok(Some(Plan {
+        from,
+        taken: reach.taken,
+        quit: reach.quit,
+    }))
 }
 
 // No room is left and no line waits. The window is looked at only where there is no room.
@@ -100,17 +108,14 @@ fn is_stuck(s: Session, window: &[u8], free: usize) -> bool
     if 0 < free {
         return false;
     }
-    match held::next_line(s, window) {
-        LineAhead::Line(_) => false,
-        LineAhead::NoLine => true,
-    }
+    held::next_line(s, window).is_none()
 }
 
 // The held part moves to the front, and the first n bytes of the piece come in behind it.
-fn store(s: Session, window: &mut [u8], piece: &[u8], from: usize, n: usize, quit: bool) -> Session
-    requires { Storing s window.old piece.now from n }
-    ensures value { result ≡ stored s window.old piece.now n quit }
-    ensures window_after { window.new ≡ stored_window s window.old piece.now n }
+fn store(s: Session, window: &mut [u8], piece: &[u8], plan: Plan) -> Session
+    requires { Storing s window.old piece.now plan.from plan.taken }
+    ensures value { result ≡ stored s window.old piece.now plan.taken plan.quit }
+    ensures window_after { window.new ≡ stored_window s window.old piece.now plan.taken }
 {
     let walk = s.walk;
     let c = walk.settings;
@@ -118,17 +123,18 @@ fn store(s: Session, window: &mut [u8], piece: &[u8], from: usize, n: usize, qui
     let p = s.places;
     let place = p.replaced;
     let end = p.end;
-    let part = &piece[..n];
+    let from = plan.from;
+    let part = &piece[..plan.taken];
     line_buffer::roll(window, from, end);
     line_buffer::take_in(window, end - from, part, binary, c.terminator);
     let taken = held::taken_bytes(s);
     let replaced = reaching::first_replaced(place, binary, c.terminator, taken, part);
-    let input = input_after(quit);
+    let input = input_after(plan.quit);
     let places = Places {
         window: p.window,
         floor: 0,
         next: p.next - from,
-        end: end - from + n,
+        end: end - from + plan.taken,
         input: input,
         replaced: replaced,
     };

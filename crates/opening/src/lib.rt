@@ -2,40 +2,36 @@
 #![tactic(auto)]
 
 ghost use Rattle.std.specs.Prelude.{◌≡◌};
-ghost use Rattle.session.specs.Calls.{fresh, opened};
+ghost use Rattle.session.specs.Calls.{fresh, open_result};
 ghost use Rattle.session.specs.Sound.{closed, places_start};
 
-use definition::{Place, Settings};
-use session::{Input, OpenOutcome, Places, Session};
+use definition::{Refusal, Settings};
+use session::{Input, Places, Refused, Session};
 
-// Opens a search with a window of a length; refusals 1 and 2.
-pub fn open(settings: Settings, window: usize) -> OpenOutcome
-    ensures { result ≡ opened settings window }
+// Opens a search with a window of a length. Refused, it hands back the closed session.
+#[tactic(auto, unfolding(session::specs::Calls::open_result, session::specs::Calls::opening))]
+pub fn open(settings: Settings, window: usize) -> Result<Session, Refused<Session>>
+    ensures { result ≡ open_result settings window }
 {
     if !agreeing::are_allowed(settings) {
-        return refused(1);
+        return Err(refused(Refusal::BadSettings));
     }
     if (window == 0) | (definition::MAX_WINDOW < window) {
-        return refused(2);
+        return Err(refused(Refusal::BadWindow));
     }
-    let s = fresh_session(settings, window);
-    OpenOutcome {
-        refusal: 0,
-        session: s,
-    }
+    Ok(fresh_session(settings, window))
 }
 
-fn refused(refusal: u64) -> OpenOutcome
-    ensures { result ≡ record { refusal = refusal; session = closed } }
+fn refused(refusal: Refusal) -> Refused<Session>
+    ensures { result ≡ record { refusal = refusal; next = closed } }
 {
-    let s = closed_session();
-    OpenOutcome {
-        refusal: refusal,
-        session: s,
+    Refused {
+        refusal,
+        next: closed_session(),
     }
 }
 
-// The session that answers 6 to everything: no opening has a window of 0 bytes.
+// The session that is refused as unsound at every call: no opening has a window of 0 bytes.
 pub fn closed_session() -> Session
     ensures { result ≡ closed }
 {
@@ -46,11 +42,9 @@ pub fn closed_session() -> Session
 fn fresh_session(settings: Settings, window: usize) -> Session
     ensures { result ≡ fresh settings window }
 {
-    let walk = stepping::start(settings);
-    let places = places_start(window);
     Session {
-        walk: walk,
-        places: places,
+        walk: stepping::start(settings),
+        places: places_start(window),
     }
 }
 
@@ -58,11 +52,11 @@ fn places_start(window: usize) -> Places
     ensures { result ≡ places_start window }
 {
     Places {
-        window: window,
+        window,
         floor: 0,
         next: 0,
         end: 0,
         input: Input::Open,
-        replaced: Place::Nowhere,
+        replaced: None,
     }
 }

@@ -3,10 +3,10 @@ use Prim.Native.Nat.{ℕ, suc, zero, ◌+◌, ◌-◌, ◌*◌, ◌/◌, ◌%◌
 use mathlib.Core.Path.{◌≡◌, refl, sym, ◌∙◌, ap}
 use mathlib.Core.Bool.{true}
 use mathlib.Core.List.{List, [], ◌∷◌, ◌++◌, append_assoc, append-nil}
-use native.Mathlib.Decide.{dec_le, dec_lt}
+use native.Mathlib.Decide.{dec_lt}
 use native.Mathlib.Nat.{div-lt_iff_lt-mul, le-div_iff_mul-le, le_trans, mod-eq_of_lt, mod-lt, pow-le-pow_right, pow-suc}
 use native.Mathlib.Omega.{arith}
-use lib.Dec.{leb, lit<}
+use lib.Dec.{lit<}
 use lib.ListN.{length, take, drop, length-append, length-take}
 use lib.Seq.{take_at}
 use borrow.Author.Tests.{le-leb, le-ltb, lt-leb, lt-ltb}
@@ -15,12 +15,6 @@ use Rattle.definition.proofs.Lists.{length_put_at, put_at_append}
 use Rattle.io.specs.Digits.{IsDigitCount, last_digits, hex_digit_ascii}
 use Rattle.output.specs.declared.Pending.{Pending}
 use Rattle.output.specs.Output.{Tells, added, collected, collected_in, decimal, fits, spelled}
-
-pub room_left : (at size all : ℕ) → at ≤ all → leb size (all - at) ≡ leb (at + size) all
-room_left at size all h = elim (dec_le size (all - at)) [
-  | yes k ↦ rw (le-leb size (all - at) k, le-leb (at + size) all (omega arith))
-  | no k ↦ rw (lt-leb size (all - at) (omega arith), lt-leb (at + size) all (omega arith))
-]
 
 -- # Text behind what is pending
 
@@ -81,15 +75,6 @@ tells_more {p} {out = out} {xs = xs} {ys = ys} f s = record {
 }
 
 -- # Numbers
-
--- a number of 64 bits has at most 20 digits
-pub few_digits : (n k : ℕ) → n < 2 ^ 64 → IsDigitCount 10 1 n k → k ≤ 20
-few_digits n k h f = elim (dec_le k 20) [
-  | yes l ↦ l
-  | no l ↦
-      let many : 10 ^ 20 ≤ n = le_trans (pow-le-pow_right {n = 10} (lit< tt) {i = 20} {j = k - 1} (omega arith)) (f.2 (omega arith)) in
-      absurd (omega (arith, many, h))
-]
 
 glyph_digit : (d : ℕ) → d < 10 → hex_digit_ascii d ≡ 48 + d
 glyph_digit d h = rw (lt-ltb d 10 h)

@@ -5,7 +5,9 @@ ghost use Rattle.std.specs.Prelude.{◌≡◌, ◌+◌, ◌≤◌, leb, length};
 ghost use Rattle.definition.specs.Text.{put_at};
 ghost use Rattle.output.specs.Output.{added, collected, collected_in, decimal, none};
 
-// What is collected: so many bytes at the buffer's front, and whether some text had no room there.
+// What is collected: so many bytes at the buffer's front, and whether some text had no room there. The buffer is lent beside it,
+// since `put`, `put_number` and those over them take any pending, one that lies past the buffer's end too, and a type that holds
+// both would ask callers to rule that out.
 #[derive(Clone, Copy)]
 pub struct Pending {
     pub length: usize,
@@ -22,6 +24,7 @@ pub fn nothing_pending() -> Pending
 }
 
 // Collects a text behind what is pending; where it has no room it is lost, and that is told.
+#[tactic(auto, unfolding(crate::specs::Output::collected, crate::specs::Output::collected_in, crate::specs::Output::fits))]
 pub fn put(out: &mut [u8], pending: Pending, text: &[u8]) -> Pending
     ensures value { result ≡ collected pending text.now out.old }
     ensures out_after { out.new ≡ collected_in pending text.now out.old }
@@ -38,13 +41,11 @@ pub fn put(out: &mut [u8], pending: Pending, text: &[u8]) -> Pending
 fn has_room(out: &[u8], at: usize, size: usize) -> bool
     ensures { result ≡ leb (at + size) (length out.now) }
 {
-    if out.len() < at {
-        return false;
-    }
-    size <= out.len() - at
+    at.checked_add(size).is_some_and(|end| end <= out.len())
 }
 
 // The text goes into the buffer, which has room.
+#[tactic(auto, using(line_buffer::proofs::Laws::part_put))]
 pub fn stored(out: &mut [u8], pending: Pending, text: &[u8]) -> Pending
     requires { pending.length + length text.now ≤ length out.old }
     ensures { (result ≡ added pending text.now) × (out.new ≡ put_at pending.length text.now out.old) }
@@ -58,6 +59,7 @@ pub fn stored(out: &mut [u8], pending: Pending, text: &[u8]) -> Pending
 }
 
 // Collects a number in decimal.
+#[tactic(auto, using(crate::proofs::Laws::fewest_decimal))]
 pub fn put_number(out: &mut [u8], pending: Pending, n: u64) -> Pending
     ensures value { result ≡ collected pending (decimal n) out.old }
     ensures out_after { out.new ≡ collected_in pending (decimal n) out.old }

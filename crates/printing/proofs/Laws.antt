@@ -1,16 +1,19 @@
 -- Laws of printed text: how long it gets, and text behind text.
-use Prim.Native.Nat.{ℕ, suc, zero, ◌+◌, ◌*◌, ◌≤◌, ◌<◌}
+use Prim.Native.Nat.{◌/◌, ℕ, suc, zero, ◌+◌, ◌*◌, ◌≤◌, ◌<◌}
 use mathlib.Core.Path.{◌≡◌, refl, sym, ◌∙◌, ap}
-use mathlib.Core.List.{List, [], ◌∷◌, ◌++◌, append_assoc, append-nil, flatten}
-use native.Mathlib.Numerals.{add-one}
+use mathlib.Core.List.{List, [], ◌∷◌, ◌++◌, append_assoc, append-nil, flatten, map}
 use native.Mathlib.Omega.{arith}
-use lib.ListN.{length, drop, get_or, length-append}
-use lib.Seq.{get_or-drop}
-use Rattle.definition.specs.Rows.{row_size, rows_in}
+use lib.Seq.{take_all}
+use Rattle.std.specs.Simd.{first_chunks}
+use lib.ListN.{length, get_or, drop, take, length-append}
+use Rattle.std.proofs.lemmas.List.{map-append, take_more}
+use Rattle.definition.proofs.Lists.{flatten_append}
+use Rattle.definition.specs.declared.Row.{Row}
+use Rattle.definition.specs.Rows.{flat, row_size}
 use Rattle.output.specs.declared.Pending.{Pending}
 use Rattle.output.specs.Output.{Tells, collected, collected_in, decimal}
-use Rattle.output.proofs.Laws.{decimal_length, tells, tells_more, tells_none}
-use Rattle.printing.specs.Texts.{four_text, newline, refused_text, row_most, rows_text, space}
+use Rattle.output.proofs.Laws.{tells, tells_more, tells_none}
+use Rattle.printing.specs.Texts.{four_text, newline, numbers_text, refused_text, row_most, row_text, rows_text, space}
 
 -- # Text behind text
 
@@ -33,57 +36,47 @@ pub refused_parts : (k : ℕ) → ((114 ∷ 101 ∷ 102 ∷ 117 ∷ 115 ∷ 101 
 unfolding refused_text
 refused_parts k = simp append_assoc
 
-pub four_most : (a b c d : ℕ) → a < 18446744073709551616 → b < 18446744073709551616 → c < 18446744073709551616 → d < 18446744073709551616
-    → length (four_text a b c d) ≤ row_most
-unfolding four_text
-four_most a b c d f g h i =
-    simp length-append
-    (omega (arith, decimal_length a f, decimal_length b g, decimal_length c h, decimal_length d i))
-
 -- # Rows
 
--- the row at a place of a table, printed
-abbrev pub row_at : List ℕ → ℕ → List ℕ
-row_at table at = four_text (get_or table at 0) (get_or table (at + 3) 0) (get_or table (at + 1) 0) (get_or table (at + 2) 0)
+-- the text of a table that holds rows is theirs
+pub rows_of : (rs : List Row) (table : List ℕ) → rows_text (length rs) (flatten (map flat rs) ++ table) ≡ flatten (map row_text rs)
+unfolding rows_text flatten
+rows_of [] table = refl
+rows_of (r ∷ rs) table = ap (λ text. row_text r ++ text) (rows_of rs table)
 
-row_at_drop : (table : List ℕ) (at : ℕ) → row_at (drop row_size table) at ≡ row_at table (row_size + at)
-row_at_drop table at =
-    let one : row_size + (at + 1) ≡ row_size + at + 1 = omega arith in
-    let two : row_size + (at + 2) ≡ row_size + at + 2 = omega arith in
-    let three : row_size + (at + 3) ≡ row_size + at + 3 = omega arith in
-    simp (get_or-drop row_size table, one, two, three)
+-- the first chunks of a list's chunks
+first_of : (n k m : ℕ) (xs : List ℕ) → k ≤ m → take k (first_chunks n m xs) ≡ first_chunks n k xs
+first_of n zero m xs h = refl
+first_of n (suc k) zero xs h = absurd (omega arith)
+first_of n (suc k) (suc m) xs h = ap (λ rest. take n xs ∷ rest) (first_of n k m (drop n xs) (omega arith))
 
-pub rows_none : (table : List ℕ) → rows_text 0 table ≡ []
-unfolding rows_text rows_in flatten
-rows_none table = refl
+-- so many of a table's rows are its first
+pub rows_front : (count i : ℕ) (table : List ℕ) (rows : List (List ℕ)) → rows ≡ first_chunks row_size (length table / row_size) table
+    → count ≤ length table / row_size → length (take count rows) ≤ i → flatten (map numbers_text (take i (take count rows))) ≡ rows_text count table
+unfolding rows_text
+rows_front count i table rows e h done =
+    ap (λ rs. flatten (map numbers_text rs)) (take_all i (take count rows) done ∙ rw e (first_of row_size count (length table / row_size) table h))
+
+-- rows are printed
+pub record RowsTold (p : Pending) (out : List ℕ) (rows : List (List ℕ)) (told : Pending) (after : List ℕ) : Type 0 where
+  pub tells : Tells p out (flatten (map numbers_text rows)) told after
+  pub most : told.length ≤ p.length + row_most * length rows
+
+pub told_none : (p : Pending) (out : List ℕ) → RowsTold p out [] p out
+unfolding flatten
+told_none p out = record { tells = tells_none p out; most = omega arith }
 
 -- one row more
-pub rows_next : (i : ℕ) (table : List ℕ) → rows_text (suc i) table ≡ rows_text i table ++ row_at table (row_size * i)
-unfolding rows_text rows_in flatten
-rows_next zero table = append-nil (row_at table 0)
-rows_next (suc i) table =
-    let rest = drop row_size table in
-    let next : row_size + row_size * i ≡ row_size * suc i = omega arith in
-    let more : rows_text (suc i) rest ≡ rows_text i rest ++ row_at table (row_size * suc i) = rows_next i rest ∙ ap (λ text. rows_text i rest ++ text) (row_at_drop table (row_size * i) ∙ ap (λ n. row_at table n) next) in
-    ap (λ text. row_at table 0 ++ text) more ∙ sym (append_assoc (row_at table 0) (rows_text i rest) (row_at table (row_size * suc i)))
-
--- the first rows of a table are printed
-pub record RowsTold (p : Pending) (out table : List ℕ) (i : ℕ) (told : Pending) (after : List ℕ) : Type 0 where
-  pub tells : Tells p out (rows_text i table) told after
-  pub most : told.length ≤ p.length + row_most * i
-
-pub told_none : (p : Pending) (out table : List ℕ) → RowsTold p out table 0 p out
-told_none p out table = record { tells = tells_same (sym (rows_none table)) (tells_none p out); most = omega arith }
-
-pub told_next : {p q r : Pending} {out table mid after : List ℕ} {i : ℕ} → RowsTold p out table i q mid
-    → Tells q mid (row_at table (row_size * i)) r after
-    → ((k : ℕ) → get_or table k 0 < 18446744073709551616)
-    → RowsTold p out table (i + 1) r after
-told_next {table = table} {i = i} f t fits =
-    let at = row_size * i in
-    let text = row_at table at in
-    let few : length text ≤ row_most = four_most (get_or table at 0) (get_or table (at + 3) 0) (get_or table (at + 1) 0) (get_or table (at + 2) 0) (fits at) (fits (at + 3)) (fits (at + 1)) (fits (at + 2)) in
+pub told_next : {p q r : Pending} {out mid after : List ℕ} (rows : List (List ℕ)) (i : ℕ) → i < length rows → RowsTold p out (take i rows) q mid
+    → Tells q mid (numbers_text (get_or rows i [])) r after → r.length ≤ q.length + row_most → RowsTold p out (take (i + 1) rows) r after
+unfolding flatten
+told_next rows i h f t most =
+    let before = take i rows in
+    let here = get_or rows i [] ∷ [] in
+    let next : take (i + 1) rows ≡ take i rows ++ (get_or rows i [] ∷ []) = take_more rows i [] h in
+    let text : flatten (map numbers_text (take i rows)) ++ numbers_text (get_or rows i []) ≡ flatten (map numbers_text (take (i + 1) rows)) =
+    sym (ap (λ rs. flatten (map numbers_text rs)) next ∙ ap flatten (map-append numbers_text before here) ∙ flatten_append (map numbers_text before) (map numbers_text here) ∙ ap (λ t. flatten (map numbers_text before) ++ t) (append-nil (numbers_text (get_or rows i [])))) in
     record {
-      tells = rw (add-one i) (tells_same (sym (rows_next i table)) (tells_more f.tells t));
-      most = omega (arith, f.most, t.length_is, few);
+      tells = tells_same text (tells_more f.tells t);
+      most = omega (arith, f.most, ap length next, length-append (take i rows) (get_or rows i [] ∷ []));
     }

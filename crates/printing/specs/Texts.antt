@@ -1,9 +1,12 @@
 -- 01, "Program": what is printed, byte for byte.
 use Rattle.std.specs.Prelude.{ℕ}
 use mathlib.Core.List.{List, [], ◌∷◌, ◌++◌, flatten, map}
+use lib.ListN.{get_or}
+use Rattle.std.specs.Simd.{first_chunks}
 use Rattle.definition.specs.declared.End.{End}
 use Rattle.definition.specs.declared.Row.{Row}
-use Rattle.definition.specs.Rows.{rows_in}
+use Rattle.definition.specs.Numbers.{cause_number}
+use Rattle.definition.specs.Rows.{kind_number, row_size}
 use Rattle.output.specs.Output.{decimal}
 
 abbrev pub newline : ℕ
@@ -19,15 +22,19 @@ four_text a b c d =
 
 -- "kind, number, offset, length"
 abbrev pub row_text : Row → List ℕ
-row_text r = four_text r.kind r.number r.offset r.length
+row_text r = four_text (kind_number r.kind) r.number r.offset r.length
 
--- the first rows of a table
+-- the same of a row's four numbers as a table holds them: kind, offset, length, number
+abbrev pub numbers_text : List ℕ → List ℕ
+numbers_text ns = four_text (get_or ns 0 0) (get_or ns 3 0) (get_or ns 1 0) (get_or ns 2 0)
+
+-- the first rows of a table, whatever its numbers are
 unfoldable pub rows_text : ℕ → List ℕ → List ℕ
-rows_text count table = flatten (map row_text (rows_in count table))
+rows_text count table = flatten (map numbers_text (first_chunks row_size count table))
 
 -- "then bytes, lines, matches, cause", after `end`
 abbrev pub end_text : End → List ℕ
-end_text e = 101 ∷ 110 ∷ 100 ∷ 32 ∷ four_text e.bytes e.lines e.matches e.cause
+end_text e = 101 ∷ 110 ∷ 100 ∷ 32 ∷ four_text e.bytes e.lines e.matches (cause_number e.cause)
 
 -- "a line `refused`, a space and its number"
 unfoldable pub refused_text : ℕ → List ℕ

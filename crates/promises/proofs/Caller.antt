@@ -1,9 +1,12 @@
 -- The promises of specs/Caller.antt.
-use Rattle.std.proofs.Common.{◌≡◌, ℕ, ◌+◌, ◌-◌, ◌*◌, ◌<◌, ◌≤◌, Bool, true, false, cond, not, ◌&&◌, ◌||◌, ltb, leb, ◌⊎◌, ◌↔◌, List, [], ◌∷◌, ◌++◌, map, length, take, drop, sym, refl, ap, ◌∙◌, inl, inr, ⊎_elim, true≢false, arith, length-append, length-drop, length-take, drop_at, ltb-true, le-ltb, lt-ltb, ne_eqb, le-leb, leb-true}
+use Rattle.definition.specs.declared.Refusal.{Refusal}
+use Rattle.std.specs.Prelude.{Ok, Err, Result, Option, Some, None}
+use Rattle.std.proofs.Common.{◌≡◌, ℕ, ◌+◌, ◌-◌, ◌*◌, ◌<◌, ◌≤◌, Bool, true, false, cond, not, ◌&&◌, ◌||◌, ltb, leb, ◌⊎◌, ◌↔◌, List, [], ◌∷◌, ◌++◌, map, length, take, drop, sym, refl, ap, ◌∙◌, inl, inr, ⊎_elim, true≢false, arith, length-append, length-drop, length-take, drop_at, ltb-true, le-ltb, lt-ltb, le-leb, leb-true}
 use mathlib.Core.Bool.{and-eq-true_iff, and-false, or-true}
 use mathlib.Core.List.{flatten}
 use native.Mathlib.Decide.{dec_le, dec_lt}
 use borrow.Author.Tests.{lt-leb}
+use Rattle.definition.specs.declared.Refusal.TheVariants.{Unsound}
 use Rattle.definition.specs.declared.Row.{Row}
 use Rattle.definition.specs.declared.Going.{Going}
 use Rattle.definition.specs.declared.Going.TheVariants.{On, LimitMet, NonmatchMet}
@@ -18,8 +21,7 @@ use Rattle.driver_core.specs.Walk.{is_on, shown_ahead, waits_ahead}
 use Rattle.session.specs.declared.Input.{Input}
 use Rattle.session.specs.declared.Input.TheVariants.{Open, Ended, QuitFound}
 use Rattle.session.specs.declared.Session.{Session}
-use Rattle.session.specs.declared.Waiting.TheVariants.{LineWaits, NoneWaits, WaitingRefused}
-use Rattle.session.specs.Calls.{Idle, OfferDecision, OfferRefused, Take, answer_answer, answer_rows, answer_session, answer_table, answered, answered_table, answering, before_quit, below_one, idle, input_told, offer_answer, offer_window, offered, offered_window, offering, opened, opening, places_next, quit_front, recorded, recording, remains, shown_line, stored, taking, told, told_session, waiting, waiting_refusal, with_input}
+use Rattle.session.specs.Calls.{answered, answered_table, answering, answer_answer, answer_result, answer_rows, answer_session, answer_table, before_quit, below_one, idle, input_told, offered, offered_window, offering, offer_answer, offer_result, offer_window, opened, places_next, quit_front, recorded, recording, record_result, remains, shown_line, stored, taking, telling, tell_given, tell_result, tell_told, told, told_session, waiting, waiting_refusal, with_input, Idle, OfferDecision, OfferRefused, Take}
 use Rattle.promises.specs.Caller.{Agreeing, Answers, Balance, NothingTwice, OfferServed, Offers, Others, Progress, Reached, RefusalsChangeNothing, RowsStay, WhenAndOnlyThen, WindowStays, answers, lone_bytes, offers, opens, tells, unfinished_bytes, unfinished_in, waiting_bytes, waiting_in, whole_bytes}
 use Rattle.session.specs.Held.{held_bytes, is_open, kept_from, shown, since_lines, unanswered, waits}
 use Rattle.session.specs.Sound.{Agree, agrees, closed, places_agree, places_tests, sound, taken_bytes}
@@ -30,6 +32,7 @@ use Rattle.promises.proofs.Only.{offer_only, answer_only}
 use Rattle.session.proofs.Cases as Cases
 use Rattle.promises.proofs.History.{answer_unchanged, answer_rows_most}
 use Rattle.promises.proofs.Invariant.{unanswered_length}
+use Rattle.session.proofs.Refusals.{opened_number, opening_refused, recorded_number, recording_refused, told_number, telling_refused, waiting_cases}
 use Rattle.session.proofs.Keeps.{GivenIf, TakenIf, answer_given, offer_taken, line_le, agree_answer, agree_offer, agree_opened, agree_told, served_fresh}
 use Rattle.promises.proofs.Taking.{stored_beyond, stored_length}
 
@@ -52,11 +55,7 @@ offer_unchanged (OfferRefused k) s w piece h = (refl, refl, refl)
 offer_unchanged Idle s w piece h = (refl, refl, refl)
 offer_unchanged (Take n quit) s w piece h = absurd (h refl)
 
-tell_unchanged : (b : Bool) (s : Session) → (◌≡◌ {A = ℕ} (cond b 0 6) 0 → ⊥) → cond b (told_session s) s ≡ s
-tell_unchanged true s h = absurd (h refl)
-tell_unchanged false s h = refl
-
-part_unshown : (b v : Bool) (line : List ℕ) → (cond b (cond v LineWaits NoneWaits) WaitingRefused ≡ LineWaits → ⊥) → cond b (cond v line []) [] ≡ []
+part_unshown : (b v : Bool) (line : List ℕ) → (◌≡◌ {A = Result Bool Refusal} (cond b (Ok v) (Err Unsound)) (Ok true) → ⊥) → cond b (cond v line []) [] ≡ []
 part_unshown true true line h = absurd (h refl)
 part_unshown true false line h = refl
 part_unshown false v line h = refl
@@ -66,15 +65,15 @@ unfolding sound agrees places_agree places_tests
 closed_unsound n = refl
 
 pub refusals_change_nothing : RefusalsChangeNothing
-unfolding offered offered_window offering answered answered_table answering told recorded recording shown_line shown_ahead waits opened waiting agrees places_agree places_tests
+unfolding offer_result offered offered_window offering answer_result answered answered_table answering tell_result telling told record_result recorded recording shown_line shown_ahead waits waiting agrees places_agree places_tests
 refusals_change_nothing s w piece table hit c window =
     record {
       offer = offer_unchanged (offering s w piece) s w piece;
       answer = answer_unchanged (answering s w (length table) hit) s w table hit;
-      tell = tell_unchanged (agrees s) s;
-      record_zeros = λ h. rw (ne_eqb (recording s) 0 h);
+      tell = telling_refused s;
+      record_zeros = recording_refused s;
       part_empty = part_unshown (sound s (length w)) (waits s w) _;
-      opening_closed = λ h. rw (ne_eqb (opening c window) 0 h);
+      opening_closed = opening_refused c window;
       closed_6 =
           (rw (closed_unsound (length w)), rw (closed_unsound (length w)), rw (closed_unsound (length w)), refl, refl);
     }
@@ -83,7 +82,7 @@ refusals_change_nothing s w piece table hit c window =
 
 -- the other way: what is neither refused by 6, 5 nor 3 is served
 offer_back_0 : (s : Session) (w piece : List ℕ) → OfferServed s w piece → (offered s w piece).refusal ≡ 0
-unfolding offered taking
+unfolding offer_result offered taking
 offer_back_0 s w piece h = go (offering s w piece) (offer_case s w piece)
   where
     go : (o : OfferDecision) → OfferCase s w piece o → (offer_answer o s w piece).refusal ≡ 0
@@ -100,7 +99,7 @@ offer_back_0 s w piece h = go (offering s w piece) (offer_case s w piece)
     go _ (takes p m v) = refl
 
 offers_when : (s : Session) (w piece : List ℕ) → Offers s w piece
-unfolding offered offering
+unfolding offer_result offered offering
 offers_when s w piece =
     let only = offer_only s w piece _ (offer_case s w piece) in
     record {
@@ -124,7 +123,7 @@ answer_back_6 s w table hit _ (gives e v b m) h =
     absurd (⊎_elim (λ k. true≢false (sym e ∙ k)) (λ t. ⊎_elim (λ k. true≢false (sym v ∙ k)) (λ k. true≢false (sym k ∙ b)) t) h)
 
 answers_when : (s : Session) (w table : List ℕ) (hit : Bool) → Answers s w table hit
-unfolding answered answering answering_since below_one answer_rows
+unfolding answer_result answered answering answering_since below_one answer_rows
 answers_when s w table hit =
     let case = answer_case s w (length table) hit in
     let only = answer_only s w (length table) hit _ case in
@@ -178,35 +177,34 @@ out_of_range n = (
   λ h. ⊎_elim (λ z. rw (le-ltb 0 n (omega arith))) (λ k. rw (lt-leb n max_window k) (and-false (ltb 0 n))) h,
 )
 
-refused_6 : (x y : Bool) → (waiting_refusal (cond x (cond y LineWaits NoneWaits) WaitingRefused) ≡ 6) ↔ (x ≡ false)
+refused_6 : (x y : Bool) → (waiting_refusal (cond x (cond y (Ok true) (Ok false)) (Err Unsound)) ≡ 6) ↔ (x ≡ false)
 refused_6 true true = (λ e. absurd (omega (arith, e)), λ e. absurd (true≢false e))
 refused_6 true false = (λ e. absurd (omega (arith, e)), λ e. absurd (true≢false e))
 refused_6 false y = (λ e. refl, λ e. refl)
 
 others_when : (s : Session) (w : List ℕ) (c : Settings) (window : ℕ) → Others s w c window
-unfolding opened opening waiting told recorded recording
 others_when s w c window =
     let o = chosen {A = ℕ} 0 2 1 (λ e. omega (arith, e)) (λ e. omega (arith, e)) (λ e. omega (arith, e)) (allowed c) (ltb 0 window && leb window max_window) in
-    let q = chosen LineWaits NoneWaits WaitingRefused (λ e. let z : ◌≡◌ {A = ℕ} 0 1 = cc in omega arith) (λ e. let z : ◌≡◌ {A = ℕ} 0 1 = cc in omega arith)
+    let q = chosen {A = Result Bool Refusal} (Ok true) (Ok false) (Err Unsound) (λ e. let z : ◌≡◌ {A = ℕ} 0 1 = cc in omega arith) (λ e. let z : ◌≡◌ {A = ℕ} 0 1 = cc in omega arith)
     (λ e. let z : ◌≡◌ {A = ℕ} 0 1 = cc in omega arith) (sound s (length w)) (waits s w)
     in
     let t = chosen {A = ℕ} 0 7 6 (λ e. omega (arith, e)) (λ e. omega (arith, e)) (λ e. omega (arith, e)) (agrees s) true in
     let r = chosen {A = ℕ} 7 0 6 (λ e. omega (arith, e)) (λ e. omega (arith, e)) (λ e. omega (arith, e)) (agrees s) (remains s) in
     record {
-      opening_1 = o.last;
+      opening_1 = rw (opened_number c window) o.last;
       opening_2 =
-          (λ e. let h = o.second.0 e in (h.0, (out_of_range window).0 h.1), λ h. o.second.1 (h.0, (out_of_range window).1 h.1));
-      opening_0 = (
+          rw (opened_number c window) (λ e. let h = o.second.0 e in (h.0, (out_of_range window).0 h.1), λ h. o.second.1 (h.0, (out_of_range window).1 h.1));
+      opening_0 = rw (opened_number c window) (
         λ e. let h = o.first.0 e in let n = (in_range window).0 h.1 in (h.0, n.0, n.1),
         λ h. o.first.1 (h.0, (in_range window).1 (h.1, h.2)),
       );
-      waiting_6 = refused_6 (sound s (length w)) (waits s w);
-      waiting_line = q.first;
-      telling_6 = t.last;
-      telling_0 = (λ e. (t.first.0 e).0, λ e. t.first.1 (e, refl));
-      record_6 = r.last;
-      record_7 = r.first;
-      record_0 = r.second;
+      waiting_6 = rw (waiting_cases s w) (refused_6 (sound s (length w)) (waits s w));
+      waiting_line = rw (waiting_cases s w) q.first;
+      telling_6 = rw (told_number s) t.last;
+      telling_0 = rw (told_number s) (λ e. (t.first.0 e).0, λ e. t.first.1 (e, refl));
+      record_6 = rw (recorded_number s) r.last;
+      record_7 = rw (recorded_number s) r.first;
+      record_0 = rw (recorded_number s) r.second;
     }
 
 pub when_and_only_then : WhenAndOnlyThen
@@ -228,7 +226,7 @@ progress_case s w piece _ (takes p m r) v n g h =
     inl (fitting_some s w piece (not_front (before_quit s piece) (length piece) h (unfold quit_front in p.2)) room m)
 
 pub progress : Progress
-unfolding offered
+unfolding offer_result offered
 progress s w piece v e g h = progress_case s w piece _ (offer_case s w piece) v e g h
 
 flat_length : (rs : List Row) → length (flatten (map flat rs)) ≡ row_size * length rs
@@ -252,7 +250,7 @@ rows_stay_of s w table hit Give g =
     )
 
 pub rows_stay : RowsStay
-unfolding answered answered_table
+unfolding answer_result answered answered_table
 rows_stay s w table hit = rows_stay_of s w table hit (answering s w (length table) hit) (answer_given s w (length table) hit)
 
 window_stays_of : (s : Session) (w piece : List ℕ) (o : OfferDecision) → TakenIf s w piece o
@@ -265,18 +263,18 @@ window_stays_of s w piece (Take n quit) t =
     (stored_length s w piece n t.agree t.room t.size, stored_beyond s w piece n t.agree t.room t.size)
 
 pub window_stays : WindowStays
-unfolding offered offered_window
+unfolding offer_result offered offered_window
 window_stays s w piece = window_stays_of s w piece (offering s w piece) (offer_taken s w piece)
 
 -- # Nothing twice
 
 idle_of : (b : Bool) (s : Session) (w piece : List ℕ)
-    → let o = cond (not b) (OfferRefused 6) Idle in
+    → let o = cond (not b) (OfferRefused Unsound) Idle in
     ((offer_answer o s w piece).taken ≡ 0) × ((offer_answer o s w piece).session ≡ s) × (offer_window o s w piece ≡ w)
 idle_of true s w piece = (refl, refl, refl)
 idle_of false s w piece = (refl, refl, refl)
 
-idle_offer : (s : Session) (w piece : List ℕ) → idle s piece ≡ true → offering s w piece ≡ cond (not (sound s (length w))) (OfferRefused 6) Idle
+idle_offer : (s : Session) (w piece : List ℕ) → idle s piece ≡ true → offering s w piece ≡ cond (not (sound s (length w))) (OfferRefused Unsound) Idle
 unfolding offering
 idle_offer s w piece e = rw e
 
@@ -289,15 +287,15 @@ idle_when s piece h = go (idle s piece) refl
         let k = not_idle s piece e in
         absurd (⊎_elim (λ n. omega (arith, k.0)) (⊎_elim (λ n. n (is_open_lem s.places.input k.1)) (λ n. n k.2)) h)
 
-told_same : (b : Bool) (s : Session) → input_told s.walk.going s.places.input ≡ s.places.input → cond b (told_session s) s ≡ s
+told_same : (o : Option Refusal) (s : Session) → input_told s.walk.going s.places.input ≡ s.places.input → (tell_told (tell_given o s)).session ≡ s
 unfolding told_session
-told_same true s e =
+told_same None s e =
     ap
     (λ (n : Input).
     let s' : Session = record { walk = s.walk; places = with_input s.places n } in
     s')
     e
-told_same false s e = refl
+told_same (Some k) s e = refl
 
 told_again : (g : Going) (n : Input) → (n ≡ Open → ⊥) → input_told g n ≡ n
 told_again On Open h = absurd (h refl)
@@ -312,10 +310,10 @@ told_stopped LimitMet n h = refl
 told_stopped NonmatchMet n h = refl
 
 pub nothing_twice : NothingTwice
-unfolding offered offered_window told
+unfolding offer_result offered offered_window tell_result told
 nothing_twice s w piece = (
   λ h. rw (idle_offer s w piece (idle_when s piece h)) (idle_of (sound s (length w)) s w piece),
-  λ h. told_same (agrees s) s (⊎_elim (told_again s.walk.going s.places.input) (told_stopped s.walk.going s.places.input) h),
+  λ h. told_same (telling s) s (⊎_elim (told_again s.walk.going s.places.input) (told_stopped s.walk.going s.places.input) h),
 )
 
 -- # Bytes taken
@@ -332,10 +330,10 @@ unfolding taken_bytes answer_session places_next walk_next state_next shown stat
 answer_bytes s w hit (AnswerRefused k) = refl
 answer_bytes s w hit Give = omega (arith, line_le s w)
 
-told_bytes : (b : Bool) (s : Session) → taken_bytes (cond b (told_session s) s) ≡ taken_bytes s
+told_bytes : (o : Option Refusal) (s : Session) → taken_bytes (tell_told (tell_given o s)).session ≡ taken_bytes s
 unfolding taken_bytes told_session
-told_bytes true s = refl
-told_bytes false s = refl
+told_bytes None s = refl
+told_bytes (Some k) s = refl
 
 opened_taken : (c : Settings) (window : ℕ) → (opened c window).refusal ≡ 0 → 0 ≡ taken_bytes (opened c window).session
 unfolding taken_bytes
@@ -347,14 +345,14 @@ off LimitMet h = refl
 off NonmatchMet h = refl
 
 reached_taken : (n : ℕ) (s : Session) → Reached n s → n ≡ taken_bytes s
-unfolding offered answered told
+unfolding offer_result offered answer_result answered tell_result told
 reached_taken _ _ (opens c window e) = opened_taken c window e
 reached_taken _ _ (offers {n = n} {s = s} w piece r) =
     ap (λ m. m + (offer_answer (offering s w piece) s w piece).taken) (reached_taken n s r)
     ∙ offer_bytes s w piece (offering s w piece) (reached_agree n s r)
 reached_taken _ _ (answers {n = n} {s = s} w table hit r) =
     reached_taken n s r ∙ sym (answer_bytes s w hit (answering s w (length table) hit))
-reached_taken _ _ (tells {n = n} {s = s} r) = reached_taken n s r ∙ sym (told_bytes (agrees s) s)
+reached_taken _ _ (tells {n = n} {s = s} r) = reached_taken n s r ∙ sym (told_bytes (telling s) s)
 
 -- every byte is of a whole line or of none
 whole_lone : (t : ℕ) (ls : List (List ℕ)) → whole_bytes t ls + lone_bytes t ls ≡ length (flatten ls)

@@ -1,4 +1,5 @@
 -- What is served at a moment of a run, and that each call of a caller who does what is next makes what is left lighter.
+use Rattle.std.specs.Prelude.{Ok}
 use Rattle.std.proofs.Common.{◌≡◌, ℕ, ◌+◌, ◌-◌, ◌*◌, ◌<◌, ◌≤◌, Bool, true, false, cond, not, ◌&&◌, ◌||◌, eqb, ltb, ◌⊎◌, List, length, take, drop, sym, refl, ap, ◌∙◌, ap₂, inl, inr, ⊎_elim, true≢false, arith, length-append, length-drop, length-take, ltb-false, ltb-true, le-ltb, lt-ltb, eq-eqb, ne_eqb, eqb-true}
 use mathlib.Core.Bool.{and-false, and-eq-true_iff}
 use native.Mathlib.Decide.{dec_le}
@@ -13,11 +14,11 @@ use Rattle.driver_core.proofs.Keeps.{is_on_lem}
 use Rattle.session.specs.declared.Input.{Input}
 use Rattle.session.specs.declared.Input.TheVariants.{Open, Ended, QuitFound}
 use Rattle.session.specs.declared.Session.{Session}
-use Rattle.session.specs.declared.Waiting.TheVariants.{LineWaits}
-use Rattle.session.specs.Calls.{OfferDecision, answer_session, before_quit, fitting, idle, input_told, offer_answer, places_next, quit_front, recorded, recording, remains, stored, taking, told, told_session, waiting}
+use Rattle.session.specs.Calls.{answer_session, before_quit, fitting, idle, input_told, offer_answer, places_next, quit_front, recorded, recording, record_result, remains, stored, taking, telling, tell_result, told, told_session, waiting, OfferDecision}
 use Rattle.session.specs.Held.{held_bytes, is_open, kept_from, unanswered, waits}
 use Rattle.promises.specs.Promises.{Within}
 use Rattle.session.specs.Sound.{Agree, ahead_bytes, taken_bytes}
+use Rattle.session.proofs.Refusals.{recorded_number}
 use Rattle.session.proofs.Agree.{agrees_of}
 use Rattle.session.proofs.Cases.{OfferCase, unsound, idling, quits, sized, full, takes}
 use Rattle.promises.proofs.Invariant.{Inv, sound_now, taken_is, unanswered_length}
@@ -149,22 +150,21 @@ module _ (input : List ℕ) (answers : ℕ → Bool) (s : Session) (w rest : Lis
   offer_served h k _ (takes p m v) = inl refl
 
   pub told_served : (told s).refusal ≡ 0
-  unfolding told
+  unfolding tell_result telling told
   told_served = rw (agrees_of s i.agree)
 
   pub record_served : ((recorded s).refusal ≡ 0) ⊎ ((recorded s).refusal ≡ 7)
-  unfolding recorded recording
-  record_served = rw (agrees_of s i.agree) (go (remains s))
+  record_served = rw (recorded_number s, agrees_of s i.agree) (go (remains s))
     where
       go : (b : Bool) → (◌≡◌ {A = ℕ} (cond b 7 0) 0) ⊎ (◌≡◌ {A = ℕ} (cond b 7 0) 7)
       go true = inr refl
       go false = inl refl
 
   pub ends_now : remains s ≡ false → (recorded s).refusal ≡ 0
-  unfolding recorded recording
+  unfolding record_result recorded recording
   ends_now e = rw (agrees_of s i.agree, e)
 
-  pub waiting_now : waits s w ≡ true → waiting s w ≡ LineWaits
+  pub waiting_now : waits s w ≡ true → waiting s w ≡ Ok true
   unfolding waiting
   waiting_now v = rw (sound_now input answers s w rest count given i, v)
 
@@ -205,7 +205,7 @@ module _ (input : List ℕ) (answers : ℕ → Bool) (s : Session) (w rest : Lis
   told_session_falls e g = omega (arith, ap₂ (λ k n. open_bit (input_told k n)) g e, ap open_bit e)
 
   pub told_falls : s.places.input ≡ Open → s.walk.going ≡ On → weight (told s).session rest < weight s rest
-  unfolding told
+  unfolding tell_result telling told
   told_falls e g = rw (agrees_of s i.agree) (told_session_falls e g)
 
   -- once the input is no longer open, a run that goes on with no line waiting holds nothing unanswered

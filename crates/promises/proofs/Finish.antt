@@ -1,16 +1,18 @@
 -- The end record that a finished session hands out is the definition's.
-use Rattle.std.proofs.Common.{◌≡◌, ℕ, ◌+◌, ◌≤◌, Bool, true, false, cond, not, ◌&&◌, ◌||◌, eqb, ltb, List, [], ◌∷◌, ◌++◌, length, sym, refl, ap, ◌∙◌, subst, true≢false, append-nil, arith, length-append, ltb-false, ltb-true, le-ltb, lt-ltb, eq-eqb}
+use Rattle.std.specs.Prelude.{Option, Some, None}
+use Rattle.std.proofs.Common.{◌≡◌, ℕ, ◌+◌, ◌≤◌, Bool, true, false, cond, not, ◌&&◌, ◌||◌, eqb, ltb, List, [], ◌∷◌, ◌++◌, length, sym, refl, ap, ◌∙◌, subst, true≢false, append-nil, arith, length-append, ltb-false, ltb-true, le-ltb, lt-ltb}
 use mathlib.Core.Bool.{false≢true}
 use mathlib.Core.List.{flatten}
 use native.Mathlib.Decide.{dec_lt}
 use Rattle.definition.specs.declared.Row.{Row}
 use Rattle.definition.specs.declared.Binary.{Binary}
 use Rattle.definition.specs.declared.Binary.TheVariants.{Ignore, Quit, Convert}
+use Rattle.definition.specs.declared.Cause.{Cause}
+use Rattle.definition.specs.declared.Cause.TheVariants.{InputEnd, QuitByte, Limit, Nonmatch}
 use Rattle.definition.specs.declared.Going.{Going}
 use Rattle.definition.specs.declared.Going.TheVariants.{On, LimitMet, NonmatchMet}
-use Rattle.definition.specs.declared.Place.{Place}
-use Rattle.definition.specs.declared.Place.TheVariants.{Nowhere, At}
 use Rattle.definition.specs.Definition.{binary_place, cause_of, end_record, end_with, quit_met}
+use Rattle.definition.specs.Numbers.{cause_number}
 use Rattle.definition.specs.State.{State, begun, rows, state}
 use Rattle.definition.specs.Text.{first_place, lines, text, text_under, up_to}
 use Rattle.definition.proofs.Kept.{rows_stopped, state_append, state_stopped}
@@ -20,9 +22,10 @@ use Rattle.driver_core.proofs.Keeps.{is_on_lem}
 use Rattle.session.specs.declared.Input.{Input}
 use Rattle.session.specs.declared.Input.TheVariants.{Open, Ended, QuitFound}
 use Rattle.session.specs.declared.Session.{Session}
-use Rattle.session.specs.Calls.{gone_through, is_quit, record_of, recorded, recorded_place, recording, remains, replaced_in, under_convert}
+use Rattle.session.specs.Calls.{gone_through, is_quit, recorded, recorded_place, record_of, remains, replaced_in, under_convert}
 use Rattle.session.specs.Held.{is_open, unanswered}
 use Rattle.session.specs.Sound.{agrees, ahead_bytes, taken_bytes}
+use Rattle.session.proofs.Refusals.{recorded_number}
 use Rattle.promises.proofs.Giving.{ended_text, going_is}
 use Rattle.promises.proofs.Invariant.{Inv, InputNow, taken_is, unanswered_length}
 
@@ -47,23 +50,23 @@ quit_later (Convert b) t past rest u q = q
 
 -- under cause 1 the Quit byte's: it comes next after the bytes taken
 place_quit : (k : Binary) (t bytes : ℕ) (past rest : List ℕ) → length (text_under k t past) ≡ length past → quit_met k rest ≡ true → text_under k t rest ≡ []
-    → At (length past) ≡ binary_place k t 1 bytes (past ++ rest)
+    → Some (length past) ≡ binary_place k t QuitByte bytes (past ++ rest)
 unfolding first_place
 place_quit Ignore t bytes past rest u q e = absurd (false≢true q)
 place_quit (Quit b) t bytes past rest u q e =
-    ap At (sym (first_append_none b past rest (omega (arith, u)) ∙ omega (arith, ap length e)))
+    ap Some (sym (first_append_none b past rest (omega (arith, u)) ∙ omega (arith, ap length e)))
 place_quit (Convert b) t bytes past rest u q e = absurd (false≢true q)
 
 -- otherwise that of the first replaced byte, once it is gone through
-place_other : (k : Binary) (t bytes cause : ℕ) (past rest : List ℕ) → bytes ≤ length past → eqb cause 1 ≡ false
+place_other : (k : Binary) (t bytes : ℕ) (cause : Cause) (past rest : List ℕ) → bytes ≤ length past → eqb (cause_number cause) 1 ≡ false
     → under_convert k (gone_through (replaced_in k t 0 past) bytes) ≡ binary_place k t cause bytes (past ++ rest)
 place_other Ignore t bytes cause past rest h e = refl
 place_other (Quit b) t bytes cause past rest h e = rw e
 place_other (Convert b) t bytes cause past rest h e = go (eqb b t)
   where
     go : (same : Bool)
-        → gone_through (cond (not same && ltb (first_place b past) (length past)) (At (0 + first_place b past)) Nowhere) bytes
-        ≡ cond (not same && ltb (first_place b (past ++ rest)) bytes) (At (first_place b (past ++ rest))) Nowhere
+        → gone_through (cond (not same && ltb (first_place b past) (length past)) (Some (0 + first_place b past)) None) bytes
+        ≡ cond (not same && ltb (first_place b (past ++ rest)) bytes) (Some (first_place b (past ++ rest))) None
     go true = refl
     go false = elim (dec_lt (first_place b past) (length past)) [
       | yes k ↦
@@ -79,33 +82,33 @@ place_other (Convert b) t bytes cause past rest h e = go (eqb b t)
 -- # The record
 
 -- the same number of bytes, lines and matches, the same cause and the same place
-module _ (k : Binary) (t bytes count matches taken : ℕ) (past rest : List ℕ) (place : Place) where
+module _ (k : Binary) (t bytes count matches taken : ℕ) (past rest : List ℕ) (place : Option ℕ) where
   abbrev Same : Going → Bool → Type 0
   Same g quit =
-      end_with bytes count matches (cause_of g quit) (cond (eqb (cause_of g quit) 1) (At taken) (under_convert k (gone_through place bytes)))
+      end_with bytes count matches (cause_of g quit) (cond (eqb (cause_number (cause_of g quit)) 1) (Some taken) (under_convert k (gone_through place bytes)))
       ≡ end_with bytes count matches (cause_of g (quit_met k (past ++ rest)))
       (binary_place k t (cause_of g (quit_met k (past ++ rest))) bytes (past ++ rest))
 
   module _ (place_is : place ≡ replaced_in k t 0 past) (gone : bytes ≤ length past) where
-    same_other : (cause : ℕ) → eqb cause 1 ≡ false
+    same_other : (cause : Cause) → eqb (cause_number cause) 1 ≡ false
         → end_with bytes count matches cause (under_convert k (gone_through place bytes)) ≡ end_with bytes count matches cause (binary_place k t cause bytes (past ++ rest))
     same_other cause e =
         ap (end_with bytes count matches cause) (ap (λ p. under_convert k (gone_through p bytes)) place_is ∙ place_other k t bytes cause past rest gone e)
 
     same_stopped : (g : Going) (quit : Bool) → (g ≡ On → ⊥) → Same g quit
     same_stopped On quit h = absurd (h refl)
-    same_stopped LimitMet quit h = same_other 2 refl
-    same_stopped NonmatchMet quit h = same_other 3 refl
+    same_stopped LimitMet quit h = same_other Limit refl
+    same_stopped NonmatchMet quit h = same_other Nonmatch refl
 
     same_ended : length (text_under k t past) ≡ length past → rest ≡ [] → Same On false
     same_ended uncut e =
         let none : quit_met k (past ++ rest) ≡ false = ap (λ xs. quit_met k (past ++ xs)) e ∙ ap (quit_met k) (append-nil past) ∙ quit_none k t past uncut in
-        rw none (same_other 0 refl)
+        rw none (same_other InputEnd refl)
 
   same_quit : taken ≡ length past → length (text_under k t past) ≡ length past → quit_met k rest ≡ true → text_under k t rest ≡ [] → Same On true
   same_quit taken_is uncut q e =
       let met : quit_met k (past ++ rest) ≡ true = quit_later k t past rest uncut q in
-      rw met (ap (end_with bytes count matches 1) (ap At taken_is ∙ place_quit k t bytes past rest uncut q e))
+      rw met (ap (end_with bytes count matches QuitByte) (ap Some taken_is ∙ place_quit k t bytes past rest uncut q e))
 
 -- # When the record is served
 
@@ -127,17 +130,12 @@ done_of s = go (is_on s.walk.going) (is_open s.places.input) (ltb 0 (ahead_bytes
     go false v l e i h k = stopped (is_off s.walk.going e)
 
 pub served_done : (s : Session) → (recorded s).refusal ≡ 0 → Done s
-unfolding recorded recording
-served_done s = go (agrees s) (remains s) refl
+served_done s e = go (agrees s) (remains s) refl (sym (recorded_number s) ∙ e)
   where
     go : (b v : Bool) → remains s ≡ v → ◌≡◌ {A = ℕ} (cond b (cond v 7 0) 6) 0 → Done s
     go true true e k = absurd (omega (arith, k))
     go true false e k = done_of s e
     go false v e k = absurd (omega (arith, k))
-
-pub served_record : (s : Session) → (recorded s).refusal ≡ 0 → (recorded s).end ≡ record_of s
-unfolding recorded
-served_record s e = rw (eq-eqb (recording s) 0 e)
 
 pub none_of_length : (xs : List ℕ) → length xs ≤ 0 → xs ≡ []
 none_of_length [] h = refl

@@ -1,7 +1,10 @@
 -- The invariant holds at every moment of every run.
+use Rattle.definition.specs.declared.Refusal.{Refusal}
+use Rattle.std.specs.Prelude.{None, Ok, true, Err, Result, Option, Some}
 use Rattle.std.proofs.Common.{◌≡◌, ℕ, ◌+◌, ◌*◌, ◌≤◌, Bool, true, false, cond, not, eqb, List, [], ◌∷◌, ◌++◌, length, take, drop, sym, refl, ap, ◌∙◌, subst, arith, le-ltb}
 use mathlib.Core.Bool.{and-false}
 use mathlib.Core.List.{cons≢nil, flatten}
+use Rattle.definition.specs.declared.Refusal.TheVariants.{Unsound}
 use Rattle.definition.specs.declared.Row.{Row}
 use Rattle.definition.specs.declared.Fate.{Fate}
 use Rattle.definition.specs.declared.Fate.TheVariants.{Match, After, Other, NoRow}
@@ -9,7 +12,6 @@ use Rattle.definition.specs.declared.Binary.{Binary}
 use Rattle.definition.specs.declared.Binary.TheVariants.{Ignore, Quit, Convert}
 use Rattle.definition.specs.declared.Going.{Going}
 use Rattle.definition.specs.declared.Going.TheVariants.{On, LimitMet, NonmatchMet}
-use Rattle.definition.specs.declared.Place.TheVariants.{Nowhere}
 use Rattle.definition.specs.declared.Settings.{Settings}
 use Rattle.definition.specs.Definition.{last_of, kept_lines}
 use Rattle.definition.specs.Rows.{row_size, rows_in}
@@ -22,16 +24,16 @@ use Rattle.driver_core.specs.Answer.{AnswerDecision, AnswerRefused, Give, answer
 use Rattle.session.specs.declared.Input.{Input}
 use Rattle.session.specs.declared.Input.TheVariants.{Open, Ended, QuitFound}
 use Rattle.session.specs.declared.Session.{Session}
-use Rattle.session.specs.declared.Waiting.TheVariants.{LineWaits, NoneWaits, WaitingRefused}
 use Rattle.session.specs.Calls as Calls
-use Rattle.session.specs.Calls.{Idle, OfferDecision, OfferRefused, Take, answer_answer, answer_rows, answer_session, answer_table, answered, answered_table, answering, below_one, fresh, input_told, offer_answer, offer_window, offered, offered_window, offering, opening, places_next, replaced_in, stored, told, told_session, waiting}
+use Rattle.session.specs.Calls.{answered, answered_table, answering, answer_answer, answer_result, answer_rows, answer_session, answer_table, below_one, fresh, input_told, offered, offered_window, offering, offer_answer, offer_result, offer_window, opened, places_next, replaced_in, stored, telling, tell_given, tell_result, tell_told, told, told_session, waiting, Idle, OfferDecision, OfferRefused, Take}
 use Rattle.session.specs.Held.{shown, since_lines, unanswered, waits}
 use Rattle.promises.specs.Promises.{kept_before}
 use Rattle.promises.specs.Run.{At, Run, Steps, here, offer, answer, ask, refused, tell, at_start}
-use Rattle.session.specs.Sound.{agrees, sound}
+use Rattle.session.specs.Sound.{sound}
 use Rattle.session.proofs.Agree.{agrees_of}
 use Rattle.promises.proofs.Giving.{inv_given, text_none}
 use Rattle.promises.proofs.Invariant.{Inv, InputNow, sound_now}
+use Rattle.session.proofs.Refusals.{opening_served, waiting_cases}
 use Rattle.session.proofs.Keeps.{TakenIf, offer_taken, agree_fresh, agree_told_session, served_fresh}
 use Rattle.promises.proofs.Taking.{inv_taken}
 
@@ -47,7 +49,7 @@ begun_counted : (c : Settings) → length (begun c).since ≤ (begun c).lines
 unfolding begun
 begun_counted c = omega arith
 
-replaced_none : (k : Binary) (t : ℕ) → replaced_in k t 0 [] ≡ Nowhere
+replaced_none : (k : Binary) (t : ℕ) → replaced_in k t 0 [] ≡ None
 unfolding first_place up_to
 replaced_none Ignore t = refl
 replaced_none (Quit b) t = refl
@@ -57,14 +59,14 @@ fitted_none : (P : List (List ℕ) → List ℕ → Type 0) (b : List (List ℕ)
 fitted_none P [] l m e = absurd (cons≢nil (sym e))
 fitted_none P (x ∷ b) l m e = absurd (cons≢nil (sym e))
 
-inv_fresh : (input : List ℕ) (answers : ℕ → Bool) (c : Settings) (w : List ℕ) → opening c (length w) ≡ 0
+inv_fresh : (input : List ℕ) (answers : ℕ → Bool) (c : Settings) (w : List ℕ) → (opened c (length w)).refusal ≡ 0
     → Inv input answers (fresh c (length w)) w input 0 []
 unfolding unanswered shown state_since since_lines back_from trim begun state rows lines flatten
 inv_fresh input answers c w e =
     record {
       past = [];
       gone = [];
-      agree = agree_fresh c (length w) e;
+      agree = agree_fresh c (length w) (opening_served c (length w) e);
       window_is = refl;
       input_is = refl;
       uncut = ap length (text_none c);
@@ -90,11 +92,10 @@ unfolding put_rows
 rows_in_table rs table = rows_in_put rs (drop (row_size * length rs) table)
 
 -- a line is told to wait only where it does, to a sound session
-pub waiting_line : (s : Session) (w : List ℕ) → waiting s w ≡ LineWaits → (sound s (length w) ≡ true) × (waits s w ≡ true)
-unfolding waiting
-waiting_line s w = go (sound s (length w)) (waits s w)
+pub waiting_line : (s : Session) (w : List ℕ) → waiting s w ≡ Ok true → (sound s (length w) ≡ true) × (waits s w ≡ true)
+waiting_line s w e = go (sound s (length w)) (waits s w) (sym (waiting_cases s w) ∙ e)
   where
-    go : (b v : Bool) → cond b (cond v LineWaits NoneWaits) WaitingRefused ≡ LineWaits → (b ≡ true) × (v ≡ true)
+    go : (b v : Bool) → ◌≡◌ {A = Result Bool Refusal} (cond b (cond v (Ok true) (Ok false)) (Err Unsound)) (Ok true) → (b ≡ true) × (v ≡ true)
     go true true e = (refl, refl)
     go true false e = let z : ◌≡◌ {A = ℕ} 0 1 = cc in absurd (omega arith)
     go false v e = let z : ◌≡◌ {A = ℕ} 0 1 = cc in absurd (omega arith)
@@ -112,7 +113,7 @@ module _ (input : List ℕ) (answers : ℕ → Bool) (s : Session) (w rest : Lis
 
   pub inv_offer : (k : ℕ)
       → Inv input answers (offered s w (take k rest)).session (offered_window s w (take k rest)) (drop (offered s w (take k rest)).taken rest) count given
-  unfolding offered offered_window
+  unfolding offer_result offered offered_window
   inv_offer k = inv_offer_of k (offering s w (take k rest)) (offer_taken s w (take k rest))
 
   -- # AnswerDecision
@@ -145,10 +146,10 @@ module _ (input : List ℕ) (answers : ℕ → Bool) (s : Session) (w rest : Lis
       let few = le-ltb table (row_size * length (answer_rows s w hit)) (omega (arith, r, answer_rows_most s w hit)) in
       rw (sound_now input answers s w rest count given i, v, not_below hit, few)
 
-  pub inv_answer : (table : List ℕ) → waiting s w ≡ LineWaits → row_size * (s.walk.settings.before + 2) ≤ length table
+  pub inv_answer : (table : List ℕ) → waiting s w ≡ Ok true → row_size * (s.walk.settings.before + 2) ≤ length table
       → Inv input answers (answered s w table (answers (count + 1))).session w rest (count + 1)
       (given ++ rows_in (answered s w table (answers (count + 1))).rows (answered_table s w table (answers (count + 1))))
-  unfolding answered answered_table
+  unfolding answer_result answered answered_table
   inv_answer table e r =
       let hit = answers (count + 1) in
       let v = (waiting_line s w e).1 in
@@ -156,7 +157,7 @@ module _ (input : List ℕ) (answers : ℕ → Bool) (s : Session) (w rest : Lis
 
   pub inv_refused : (table : List ℕ) (hit : Bool) → ((answered s w table hit).refusal ≡ 0 → ⊥)
       → Inv input answers (answered s w table hit).session w rest count given
-  unfolding answered
+  unfolding answer_result answered
   inv_refused table hit n =
       subst (λ x. Inv input answers x w rest count given) (sym (answer_unchanged (answering s w (length table) hit) s w table hit n).0) i
 
@@ -193,9 +194,8 @@ module _ (input : List ℕ) (answers : ℕ → Bool) (s : Session) (w rest : Lis
       }
 
   pub inv_told : (s.walk.going ≡ On → s.places.input ≡ Open → rest ≡ []) → Inv input answers (told s).session w rest count given
-  unfolding told
-  inv_told e =
-      subst (λ b. Inv input answers (cond b (told_session s) s) w rest count given) (sym (agrees_of s i.agree)) (inv_told_session e)
+  unfolding tell_result telling told
+  inv_told e = rw (agrees_of s i.agree) (inv_told_session e)
 
 -- # A run
 
@@ -244,14 +244,16 @@ unfolding answer_session places_next walk_next
 answer_settings (AnswerRefused k) s w hit = (refl, refl)
 answer_settings Give s w hit = (refl, refl)
 
-told_settings : (b : Bool) (s : Session) → ((cond b (told_session s) s).walk.settings ≡ s.walk.settings) × ((cond b (told_session s) s).places.window ≡ s.places.window)
+told_settings : (o : Option Refusal) (s : Session)
+    → ((tell_told (tell_given o s)).session.walk.settings ≡ s.walk.settings)
+    × ((tell_told (tell_given o s)).session.places.window ≡ s.places.window)
 unfolding told_session
-told_settings true s = (refl, refl)
-told_settings false s = (refl, refl)
+told_settings None s = (refl, refl)
+told_settings (Some k) s = (refl, refl)
 
 pub steps_stay : (answers : ℕ → Bool) (from a : At) → Steps answers from a
     → (a.session.walk.settings ≡ from.session.walk.settings) × (a.session.places.window ≡ from.session.places.window)
-unfolding offered answered told
+unfolding offer_result offered answer_result answered tell_result told
 steps_stay answers from _ here = (refl, refl)
 steps_stay answers from _ (offer {a = b} k t) =
     let h = steps_stay answers from b t in
@@ -268,7 +270,7 @@ steps_stay answers from _ (refused {a = b} table hit n t) =
     (o.0 ∙ h.0, o.1 ∙ h.1)
 steps_stay answers from _ (tell {a = b} e t) =
     let h = steps_stay answers from b t in
-    let o = told_settings (agrees b.session) b.session in
+    let o = told_settings (telling b.session) b.session in
     (o.0 ∙ h.0, o.1 ∙ h.1)
 
 pub run_settings : (c : Settings) (input : List ℕ) (answers : ℕ → Bool) (a : At) → Run c input answers a → a.session.walk.settings ≡ c

@@ -1,5 +1,6 @@
 -- The promises of specs/Promises.antt, from the invariant.
-use Rattle.std.proofs.Common.{◌≡◌, ℕ, ◌+◌, ◌-◌, ◌≤◌, Bool, true, false, cond, ◌⊎◌, List, ◌∷◌, ◌++◌, length, take, drop, sym, refl, ap, ◌∙◌, subst, inl, inr, ⊎_elim, append-nil, arith, drop_at}
+use Rattle.std.specs.Prelude.{Ok}
+use Rattle.std.proofs.Common.{◌≡◌, ℕ, ◌+◌, ◌-◌, ◌≤◌, Bool, true, ◌⊎◌, List, ◌∷◌, ◌++◌, length, take, drop, sym, ap, ◌∙◌, subst, inl, inr, ⊎_elim, append-nil, arith, drop_at}
 use mathlib.Core.List.{flatten}
 use native.Mathlib.Decide.{dec_le}
 use Rattle.definition.specs.declared.Row.{Row}
@@ -13,15 +14,15 @@ use Rattle.definition.proofs.Same.{same_end, same_lines, same_rows}
 use Rattle.driver_core.specs.Answer.{state_since}
 use Rattle.driver_core.specs.Walk.{shown_ahead}
 use Rattle.session.specs.declared.Session.{Session}
-use Rattle.session.specs.declared.Waiting.TheVariants.{LineWaits, NoneWaits}
-use Rattle.session.specs.Calls.{answered, offered, recorded, shown_line, waiting, waiting_refusal}
+use Rattle.session.specs.Calls.{answered, answer_result, offered, offer_result, recorded, shown_line, waiting, waiting_refusal}
 use Rattle.session.specs.Held.{line_length, shown, since_lines, unanswered, waits}
 use Rattle.promises.specs.Promises.{Account, Asked, Begins, Beginning, Prompt, Cut, Ends, Finished, Handed, Memory, NoRoom, Room, Served, TooLong, Within, answers_of}
 use Rattle.promises.specs.Run.{At, Run, Steps}
 use Rattle.session.specs.Sound.{sound}
 use Rattle.promises.proofs.Carry.{offer_served, record_served, told_served}
 use Rattle.session.proofs.Cases.{offer_case}
-use Rattle.promises.proofs.Finish.{record_same, rows_done, served_done, served_record, state_done}
+use Rattle.promises.proofs.Finish.{record_same, rows_done, served_done, state_done}
+use Rattle.session.proofs.Refusals as Refusals
 use Rattle.promises.proofs.Giving.{line, lines_now}
 use Rattle.promises.proofs.History.{answer_gives, inv_run, run_on, run_settings, steps_stay, waiting_line}
 use Rattle.promises.proofs.Invariant.{Inv, sound_now, taken_is}
@@ -29,7 +30,7 @@ use Rattle.promises.proofs.Room.{cut_shorter, not_ended, not_past, same_count, t
 use Rattle.promises.proofs.Soon.{carried}
 
 -- the part shown is the waiting line without its terminator
-pub shown_handed : (s : Session) (w : List ℕ) → waiting s w ≡ LineWaits → shown_line s w ≡ handed s.walk.settings.terminator (line s w)
+pub shown_handed : (s : Session) (w : List ℕ) → waiting s w ≡ Ok true → shown_line s w ≡ handed s.walk.settings.terminator (line s w)
 unfolding shown_line shown_ahead waits line line_length
 shown_handed s w e = rw ((waiting_line s w e).0, (waiting_line s w e).1)
 
@@ -53,14 +54,14 @@ module _ (input : List ℕ) (answers : ℕ → Bool) (s : Session) (w rest : Lis
       let d = served_done s e in
       let record-at : State → _ = λ t. end_record c input t.bytes t.lines t.matches t.going in (
         sym (rows_all ∙ ap (λ xs. given ++ xs) (rows_done input answers s w rest count given i d) ∙ append-nil given),
-        served_record s e
+        Refusals.record_served s e
             ∙ record_same input answers s w rest count given i d
             ∙ ap (λ (t : State). end_record c input t.bytes t.lines t.matches t.going) i.state_is
             ∙ ap (λ (t : State). end_record c input t.bytes t.lines t.matches t.going) (sym (state_done input answers s w rest count given i d))
             ∙ sym (same_end c input answers),
       )
 
-  pub handed_inv : waiting s w ≡ LineWaits → (before : List (List ℕ)) × (l : List ℕ) × (later : List (List ℕ))
+  pub handed_inv : waiting s w ≡ Ok true → (before : List (List ℕ)) × (l : List ℕ) × (later : List (List ℕ))
       × (lines s.walk.settings.terminator (text s.walk.settings input) ≡ before ++ (l ∷ later))
       × (length before ≡ count)
       × (shown_line s w ≡ handed s.walk.settings.terminator l)
@@ -122,7 +123,7 @@ line_after before l later n e =
 
 module _ (matcher : List ℕ → Bool) (input : List ℕ) (s : Session) (w rest : List ℕ) (count : ℕ) (given : List Row)
     (i : Inv input (answers_of matcher s.walk.settings input) s w rest count given) where
-  pub asked_inv : waiting s w ≡ LineWaits → answers_of matcher s.walk.settings input (count + 1) ≡ matcher (shown_line s w)
+  pub asked_inv : waiting s w ≡ Ok true → answers_of matcher s.walk.settings input (count + 1) ≡ matcher (shown_line s w)
   unfolding answers_of
   asked_inv e =
       let h = handed_inv input (answers_of matcher s.walk.settings input) s w rest count given i e in
@@ -220,14 +221,10 @@ room c input answers a r =
 
 not_refused : (s : Session) (w : List ℕ) → sound s (length w) ≡ true → waiting_refusal (waiting s w) ≡ 0
 unfolding waiting
-not_refused s w e = rw e (go (waits s w))
-  where
-    go : (b : Bool) → waiting_refusal (cond b LineWaits NoneWaits) ≡ 0
-    go true = refl
-    go false = refl
+not_refused s w e = rw e
 
 pub served : Served
-unfolding offered answered
+unfolding offer_result offered answer_result answered
 served c input answers a r h =
     let s = a.session in
     let w = a.window in

@@ -13,7 +13,7 @@ use Rattle.definition.proofs.Same.{same_lines}
 use Rattle.definition.proofs.Terminator.{first_append_none, lines_head}
 use Rattle.driver_core.specs.Walk.{is_on, waits_ahead}
 use Rattle.session.specs.declared.Session.{Session}
-use Rattle.session.specs.Calls.{offered}
+use Rattle.session.specs.Calls.{offered, offer_result}
 use Rattle.session.specs.Held.{held_bytes, is_open, kept_bytes, unanswered, waits}
 use Rattle.promises.specs.Promises.{Fitted, TooLong, kept_before}
 use Rattle.promises.proofs.Carry.{more_text, not_idle, or_false}
@@ -81,7 +81,7 @@ module _ (input : List ℕ) (answers : ℕ → Bool) (s : Session) (w rest : Lis
 
   pub too_long : (k : ℕ) → (offered s w (take k rest)).refusal ≡ 3
       → (t : TooLong s.walk.settings input answers (length w) count) × (given ≡ (gone_lines s.walk.settings answers t.before).rows)
-  unfolding offered
+  unfolding offer_result offered
   too_long k e =
       let c = s.walk.settings in
       let t = c.terminator in

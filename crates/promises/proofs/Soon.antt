@@ -8,7 +8,7 @@ use Rattle.driver_core.specs.Walk.{is_on}
 use Rattle.driver_core.proofs.Keeps.{is_on_lem}
 use Rattle.session.specs.declared.Input.TheVariants.{Open}
 use Rattle.session.specs.declared.Session.{Session}
-use Rattle.session.specs.Calls.{answered, offered, offered_window, offering, remains}
+use Rattle.session.specs.Calls.{answered, answer_result, offered, offered_window, offering, offer_result, remains}
 use Rattle.session.specs.Held.{is_open, waits}
 use Rattle.promises.specs.Promises.{Ends, NoRoom, Within}
 use Rattle.promises.specs.Run.{At, Steps, here, offer, answer, tell, at_answer, at_end, at_offer}
@@ -29,7 +29,7 @@ Roomy table a = row_size * (a.session.walk.settings.before + 2) ≤ length table
 
 -- an offer that is refused changes nothing
 offer_same : (k : ℕ) (a : At) → ((offered a.session a.window (take k a.rest)).refusal ≡ 0 → ⊥) → at_offer k a ≡ a
-unfolding offered offered_window
+unfolding offer_result offered offered_window
 offer_same k a h =
     let s = a.session in
     let piece = take k a.rest in
@@ -46,7 +46,7 @@ module _ (input : List ℕ) (answers : ℕ → Bool) (table : List ℕ) (a : At)
   Turned b = Steps answers a b × ((Over a × (b ≡ a)) ⊎ (weight b.session b.rest < weight a.session a.rest))
 
   answer_turn : waits a.session a.window ≡ true → Turned (at_answer answers table a)
-  unfolding answered
+  unfolding answer_result answered
   answer_turn v =
       let s = a.session in
       let w = a.window in
@@ -58,7 +58,7 @@ module _ (input : List ℕ) (answers : ℕ → Bool) (table : List ℕ) (a : At)
 
   offer_turn : waits a.session a.window ≡ false → a.session.places.input ≡ Open → a.session.walk.going ≡ On → 0 < length a.rest
       → Turned (at_offer (length a.rest) a)
-  unfolding offered
+  unfolding offer_result offered
   offer_turn v n g l =
       let s = a.session in
       let w = a.window in
@@ -127,7 +127,7 @@ module _ (input : List ℕ) (answers : ℕ → Bool) (table : List ℕ) where
 
 -- within the size no offer is refused by 5
 within_room : (input : List ℕ) (answers : ℕ → Bool) (a : At) → InvAt input answers a → Within a.session.walk.settings input → Over a → Ends a ⊎ NoRoom a
-unfolding offered
+unfolding offer_result offered
 within_room input answers a i h (inl e) = inl e
 within_room input answers a i h (inr (inl n)) = inr n
 within_room input answers a i h (inr (inr (k, e))) =

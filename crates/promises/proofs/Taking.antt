@@ -1,4 +1,5 @@
 -- The invariant across an offer that takes bytes.
+use Rattle.std.specs.Prelude.{Some, None}
 use Rattle.std.proofs.Common.{◌≡◌, ℕ, ◌+◌, ◌-◌, ◌<◌, ◌≤◌, Bool, true, false, cond, not, ◌&&◌, eqb, ltb, List, [], ◌++◌, length, take, drop, sym, refl, ap, ◌∙◌, ap₂, append_assoc, arith, length-append, length-drop, take-append-drop, length-take, take-take, take_at, drop_at, ltb-true, le-ltb, lt-ltb, eqb-true}
 use mathlib.Core.Bool.{and-eq-true_iff}
 use mathlib.Core.List.{flatten}
@@ -6,7 +7,6 @@ use native.Mathlib.Decide.{dec_lt}
 use Rattle.definition.specs.declared.Row.{Row}
 use Rattle.definition.specs.declared.Binary.{Binary}
 use Rattle.definition.specs.declared.Binary.TheVariants.{Ignore, Quit, Convert}
-use Rattle.definition.specs.declared.Place.TheVariants.{Nowhere, At}
 use Rattle.definition.specs.Definition.{last_of, quit_met, kept_lines}
 use Rattle.definition.specs.State.{trim}
 use Rattle.definition.specs.Text.{first_place, lines, part, text, text_under, up_to}
@@ -17,7 +17,7 @@ use Rattle.driver_core.specs.Answer.{back_from, state_since}
 use Rattle.driver_core.proofs.Back.{back_from_last}
 use Rattle.session.specs.declared.Input.TheVariants.{Open, QuitFound}
 use Rattle.session.specs.declared.Session.{Session}
-use Rattle.session.specs.Calls.{Idle, OfferDecision, OfferRefused, Take, before_quit, first_of, offer_answer, offered, offering, quit_place, replaced_in, stored, stored_window}
+use Rattle.session.specs.Calls.{before_quit, first_of, offered, offering, offer_answer, offer_result, quit_place, replaced_in, stored, stored_window, Idle, OfferDecision, OfferRefused, Take}
 use Rattle.session.specs.Held.{kept_from, shown, since_lines, unanswered}
 use Rattle.session.specs.Sound.{Agree}
 use Rattle.promises.proofs.Invariant.{Inv, InputNow, taken_is, unanswered_length}
@@ -28,7 +28,7 @@ use Rattle.session.proofs.Parts.{kept_part_lem, part_length, part_split, quit_le
 
 -- no more is taken than was offered
 pub taken_le : (s : Session) (w piece : List ℕ) → (offered s w piece).taken ≤ length piece
-unfolding offered before_quit
+unfolding offer_result offered before_quit
 taken_le s w piece = go (offering s w piece) (offer_taken s w piece)
   where
     go : (o : OfferDecision) → TakenIf s w piece o → (offer_answer o s w piece).taken ≤ length piece
@@ -74,9 +74,9 @@ replaced_append (Quit b) t xs ys = refl
 replaced_append (Convert b) t xs ys = go (eqb b t)
   where
     go : (same : Bool)
-        → first_of (cond (not same && ltb (first_place b xs) (length xs)) (At (0 + first_place b xs)) Nowhere)
-        (cond (not same && ltb (first_place b ys) (length ys)) (At (length xs + first_place b ys)) Nowhere)
-        ≡ cond (not same && ltb (first_place b (xs ++ ys)) (length (xs ++ ys))) (At (0 + first_place b (xs ++ ys))) Nowhere
+        → first_of (cond (not same && ltb (first_place b xs) (length xs)) (Some (0 + first_place b xs)) None)
+        (cond (not same && ltb (first_place b ys) (length ys)) (Some (length xs + first_place b ys)) None)
+        ≡ cond (not same && ltb (first_place b (xs ++ ys)) (length (xs ++ ys))) (Some (0 + first_place b (xs ++ ys))) None
     go true = refl
     go false = elim (dec_lt (first_place b xs) (length xs)) [
       | yes h ↦
@@ -88,7 +88,7 @@ replaced_append (Convert b) t xs ys = go (eqb b t)
       | no h ↦
           let z : 0 + (length xs + first_place b ys) ≡ length xs + first_place b ys = omega arith in
           rw (first_append_none b xs ys (omega arith), le-ltb (first_place b xs) (length xs) (omega arith), z, length-append xs ys)
-          (ap (λ v. cond v (At (length xs + first_place b ys)) Nowhere) (shift (length xs) (first_place b ys) (length ys)))
+          (ap (λ v. cond v (Some (length xs + first_place b ys)) None) (shift (length xs) (first_place b ys) (length ys)))
     ]
 
 -- # The window after taking

@@ -1,7 +1,7 @@
 -- The promises to any caller: no rule at all is kept, and the window may be altered at will between calls. Each is a statement; its
 -- proof, under the same name in small letters, stands in proofs/Caller.antt. Every call is a function of its arguments, so each has
 -- exactly one outcome.
-use Rattle.std.specs.Prelude.{◌≡◌, ℕ, ◌+◌, ◌*◌, ◌<◌, ◌≤◌, Bool, true, false, cond, ◌⊎◌, ◌↔◌, List, [], ◌∷◌, length, drop, ◌≢◌, nat_lt}
+use Rattle.std.specs.Prelude.{◌≡◌, ℕ, ◌+◌, ◌*◌, ◌<◌, ◌≤◌, Bool, true, false, cond, ◌⊎◌, ◌↔◌, List, [], ◌∷◌, length, drop, ◌≢◌, nat_lt, Ok}
 use Rattle.definition.specs.declared.Going.TheVariants.{On}
 use Rattle.definition.specs.declared.Settings.{Settings}
 use Rattle.definition.specs.Bounds.{allowed, max_input, max_window}
@@ -10,7 +10,6 @@ use Rattle.definition.specs.Text.{first_place, lines}
 use Rattle.driver_core.specs.Walk.{is_on}
 use Rattle.session.specs.declared.Input.TheVariants.{Open, QuitFound}
 use Rattle.session.specs.declared.Session.{Session}
-use Rattle.session.specs.declared.Waiting.TheVariants.{LineWaits}
 use Rattle.session.specs.Calls.{Plain, answer_rows, answered, answered_table, below_one, idle, no_record, offered, offered_window, opened, quit_front, recorded, remains, shown_line, told, waiting, waiting_refusal}
 use Rattle.session.specs.Held.{held_bytes, is_open, unanswered, waits}
 use Rattle.session.specs.Sound.{agrees, closed, sound, taken_bytes}
@@ -40,7 +39,7 @@ pub record Unchanged (s : Session) (w piece table : List ℕ) (hit : Bool) (c : 
       → ((answered s w table hit).session ≡ s) × ((answered s w table hit).rows ≡ 0) × (answered_table s w table hit ≡ table)
   pub tell : ((told s).refusal ≢ 0) → (told s).session ≡ s
   pub record_zeros : ((recorded s).refusal ≢ 0) → (recorded s).end ≡ no_record
-  pub part_empty : (waiting s w ≢ LineWaits) → shown_line s w ≡ []
+  pub part_empty : (waiting s w ≢ Ok true) → shown_line s w ≡ []
   pub opening_closed : ((opened c window).refusal ≢ 0) → (opened c window).session ≡ closed
   pub closed_6 :
       ((offered closed w piece).refusal ≡ 6)
@@ -88,7 +87,7 @@ pub record Others (s : Session) (w : List ℕ) (c : Settings) (window : ℕ) : T
   pub opening_2 : ((opened c window).refusal ≡ 2) ↔ ((allowed c ≡ true) × ((window ≡ 0) ⊎ (max_window < window)))
   pub opening_0 : ((opened c window).refusal ≡ 0) ↔ ((allowed c ≡ true) × (0 < window) × (window ≤ max_window))
   pub waiting_6 : (waiting_refusal (waiting s w) ≡ 6) ↔ (sound s (length w) ≡ false)
-  pub waiting_line : (waiting s w ≡ LineWaits) ↔ ((sound s (length w) ≡ true) × (waits s w ≡ true))
+  pub waiting_line : (waiting s w ≡ Ok true) ↔ ((sound s (length w) ≡ true) × (waits s w ≡ true))
   pub telling_6 : ((told s).refusal ≡ 6) ↔ (agrees s ≡ false)
   pub telling_0 : ((told s).refusal ≡ 0) ↔ (agrees s ≡ true)
   pub record_6 : ((recorded s).refusal ≡ 6) ↔ (agrees s ≡ false)

@@ -1,6 +1,6 @@
 -- The promises to the caller of demand 3, over every run. Each is a statement; its proof, under the same name in small letters
 -- (`handed_line` for Handed), stands in proofs/Promises.antt.
-use Rattle.std.specs.Prelude.{◌≡◌, ℕ, ◌+◌, ◌-◌, ◌*◌, ◌<◌, ◌≤◌, Bool, ◌⊎◌, List, ◌∷◌, ◌++◌, length, take, drop}
+use Rattle.std.specs.Prelude.{◌≡◌, ℕ, ◌+◌, ◌-◌, ◌*◌, ◌<◌, ◌≤◌, Bool, ◌⊎◌, List, ◌∷◌, ◌++◌, length, take, drop, Ok, true}
 use mathlib.Core.List.{flatten}
 use Rattle.definition.specs.declared.Row.{Row}
 use Rattle.definition.specs.declared.Going.TheVariants.{On}
@@ -9,7 +9,6 @@ use Rattle.definition.specs.Bounds.{max_input}
 use Rattle.definition.specs.Definition.{bytes_of, end_of, gone_lines, kept_part, rows_of}
 use Rattle.definition.specs.Rows.{row_size}
 use Rattle.definition.specs.Text.{handed, lines, text}
-use Rattle.session.specs.declared.Waiting.TheVariants.{LineWaits}
 use Rattle.session.specs.Calls.{answered, offered, recorded, shown_line, told, waiting, waiting_refusal}
 use Rattle.session.specs.Held.{unanswered}
 use Rattle.promises.specs.Run.{At, Run, Steps}
@@ -64,7 +63,7 @@ Cut =
 -- without its terminator, so that a matcher's yes or no per line is the answer that the definition speaks of.
 abbrev pub Handed : Type 0
 Handed =
-    (c : Settings) (input : List ℕ) (answers : ℕ → Bool) (a : At) → Run c input answers a → waiting a.session a.window ≡ LineWaits
+    (c : Settings) (input : List ℕ) (answers : ℕ → Bool) (a : At) → Run c input answers a → waiting a.session a.window ≡ Ok true
     → (before : List (List ℕ)) × (line : List ℕ) × (later : List (List ℕ))
     × (lines c.terminator (text c input) ≡ before ++ (line ∷ later))
     × (length before ≡ a.count)
@@ -79,7 +78,7 @@ answers_of matcher c input n =
 abbrev pub Asked : Type 0
 Asked =
     (matcher : List ℕ → Bool) (c : Settings) (input : List ℕ) (a : At) → Run c input (answers_of matcher c input) a
-    → waiting a.session a.window ≡ LineWaits
+    → waiting a.session a.window ≡ Ok true
     → answers_of matcher c input (a.count + 1) ≡ matcher (shown_line a.session a.window)
 
 -- # The history
@@ -157,7 +156,7 @@ pub record Serves (answers : ℕ → Bool) (a : At) : Type 0 where
       ⊎ ((offered a.session a.window (take k a.rest)).refusal ≡ 3)
   pub asks : waiting_refusal (waiting a.session a.window) ≡ 0
   pub answering :
-      (table : List ℕ) (hit : Bool) → waiting a.session a.window ≡ LineWaits
+      (table : List ℕ) (hit : Bool) → waiting a.session a.window ≡ Ok true
       → row_size * (a.session.walk.settings.before + 2) ≤ length table → (answered a.session a.window table hit).refusal ≡ 0
   pub tells : (told a.session).refusal ≡ 0
   -- 7 where the end record is asked for too early

@@ -1,12 +1,11 @@
 -- Runs: everything that the caller of demand 3 may do, as a type of traces.
-use Rattle.std.specs.Prelude.{◌≡◌, ℕ, ◌+◌, ◌*◌, ◌≤◌, Bool, List, [], ◌++◌, length, take, drop, ◌≢◌}
+use Rattle.std.specs.Prelude.{◌≡◌, ℕ, ◌+◌, ◌*◌, ◌≤◌, Bool, List, [], ◌++◌, length, take, drop, ◌≢◌, Ok, true}
 use Rattle.definition.specs.declared.Row.{Row}
 use Rattle.definition.specs.declared.Going.TheVariants.{On}
 use Rattle.definition.specs.declared.Settings.{Settings}
 use Rattle.definition.specs.Rows.{row_size, rows_in}
 use Rattle.session.specs.declared.Input.TheVariants.{Open}
 use Rattle.session.specs.declared.Session.{Session}
-use Rattle.session.specs.declared.Waiting.TheVariants.{LineWaits}
 use Rattle.session.specs.Calls.{answered, answered_table, offered, offered_window, opened, told, waiting}
 
 -- where a run stands, as its caller knows it
@@ -76,7 +75,7 @@ at_end a =
 pub data Steps (answers : ℕ → Bool) (from : At) : At → Type 0 where
   here : Steps answers from from
   offer : {a : At} (k : ℕ) → Steps answers from a → Steps answers from (at_offer k a)
-  answer : {a : At} (table : List ℕ) → waiting a.session a.window ≡ LineWaits
+  answer : {a : At} (table : List ℕ) → waiting a.session a.window ≡ Ok true
       → row_size * (a.session.walk.settings.before + 2) ≤ length table → Steps answers from a → Steps answers from (at_answer answers table a)
   ask : {a : At} → Steps answers from a → Steps answers from a
   refused : {a : At} (table : List ℕ) (hit : Bool) → ((answered a.session a.window table hit).refusal ≢ 0)

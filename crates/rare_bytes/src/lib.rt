@@ -18,23 +18,20 @@ pub struct Pair {
 pub fn choose(literal: &[u8]) -> Pair
     ensures { result ≡ chosen literal.now }
 {
-    let first = rarest_but(literal, literal.len());
-    let second = rarest_but(literal, first);
+    let first = rarest_but(literal, None);
+    let second = rarest_but(literal, Some(first));
     Pair { first, second }
 }
 
-// The place of the rarest byte of the literal, but for the place `but`.
-fn rarest_but(literal: &[u8], but: usize) -> usize
+// The first place of the rarest byte of the literal, but for the place `but`.
+fn rarest_but(literal: &[u8], but: Option<usize>) -> usize
     ensures { result ≡ rarest_but but literal.now }
 {
     let mut best = 0;
     let mut top = 0;
-    let mut i = 0;
-    while i < literal.len() {
-        let at = i;
-        let rarity = rarity_of(literal[at]);
-        i += 1;
-        if (top < rarity) & (at != but) {
+    for (at, b) in literal.iter().enumerate() {
+        let rarity = rarity_of(*b);
+        if top < rarity && but != Some(at) {
             best = at;
             top = rarity;
         }

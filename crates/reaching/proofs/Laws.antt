@@ -1,17 +1,19 @@
--- Laws of how far a piece reaches: one byte past the room is enough to look at.
-use Prim.Native.Nat.{ℕ, zero, suc, ◌+◌, ◌≤◌, min}
+-- Laws of how far a piece reaches: what comes before a Quit byte in a front of the piece, and that one byte past the room is enough to
+-- look at.
+use Prim.Native.Nat.{ℕ, zero, suc, min, ◌+◌, ◌≤◌}
 use mathlib.Core.Path.{◌≡◌, sym, ◌∙◌}
-use mathlib.Core.Bool.{Bool, true, false, cond, ◌&&◌}
 use mathlib.Core.List.{List, [], ◌∷◌}
-use native.Mathlib.Decide.{dec_le}
 use native.Mathlib.Omega.{arith}
-use lib.Dec.{ltb, eqb}
-use lib.ListN.{length, take, length-take}
-use borrow.Author.Tests.{ne_eqb}
+use lib.ListN.{take, length-take, length}
+use Rattle.std.proofs.lemmas.Grind.{common_steps}
 use Rattle.definition.specs.declared.Binary.{Binary}
 use Rattle.definition.specs.declared.Binary.TheVariants.{Ignore, Quit, Convert}
 use Rattle.definition.specs.Text.{first_place, up_to}
 use Rattle.session.specs.Calls.{quit_place}
+use mathlib.Core.Bool.{◌&&◌}
+use native.Mathlib.Decide.{dec_le}
+use lib.Dec.{ltb, eqb}
+use borrow.Author.Tests.{ne_eqb}
 use Rattle.session.proofs.Parts.{quit_le}
 use Rattle.reaching.specs.Reached.{reached}
 
@@ -19,14 +21,9 @@ first_take : (b n : ℕ) (xs : List ℕ) → first_place b (take n xs) ≡ min (
 unfolding first_place up_to
 first_take b zero xs = omega arith
 first_take b (suc n) [] = omega arith
-first_take b (suc n) (x ∷ xs) = go (eqb x b) (first_take b n xs)
-  where
-    go : (k : Bool) → length (up_to b (take n xs)) ≡ min (length (up_to b xs)) n
-        → length (cond k [] (x ∷ up_to b (take n xs))) ≡ min (length (cond k [] (x ∷ up_to b xs))) (suc n)
-    go true h = omega arith
-    go false h = omega (arith, h)
+first_take b (suc n) (x ∷ xs) = grind (arith, common_steps, first_take b n xs)
 
-quit_take : (k : Binary) (n : ℕ) (piece : List ℕ) → quit_place k (take n piece) ≡ min (quit_place k piece) n
+pub quit_take : (k : Binary) (n : ℕ) (piece : List ℕ) → quit_place k (take n piece) ≡ min (quit_place k piece) n
 quit_take Ignore n piece = omega (arith, length-take n piece)
 quit_take (Quit b) n piece = first_take b n piece
 quit_take (Convert b) n piece = omega (arith, length-take n piece)

@@ -7,10 +7,9 @@ ghost use Rattle.definition.specs.Bounds.{max_input, max_window};
 ghost use Rattle.session.specs.Calls.{first_of, quit_place, replaced_in};
 ghost use Rattle.reaching.specs.Reached.{reached};
 
-use definition::{Binary, Place};
-use lines::Found;
+use definition::Binary;
 
-// How many bytes of a piece come in, and whether a Quit byte comes next after them.
+// How many bytes of a piece come in, and whether a Quit byte comes next after them: two facts, so no Option. Bytes come in either way.
 #[derive(Clone, Copy)]
 pub struct Reach {
     pub taken: usize,
@@ -18,15 +17,16 @@ pub struct Reach {
 }
 
 // Looks no further into the piece than one byte past what there is room for.
+#[tactic(auto, using(crate::proofs::Laws::quit_take, session::proofs::Parts::quit_le), unfolding(crate::specs::Reached::reached))]
 pub fn reaches(binary: Binary, piece: &[u8], room: usize) -> Reach
     requires { room ≤ max_window }
     ensures { result ≡ reached binary piece.now room }
 {
-    let seen = numbers::least(piece.len(), room + 1);
+    let seen = piece.len().min(room + 1);
     let before = before_quit(binary, &piece[..seen]);
-    let taken = numbers::least(before, room);
+    let taken = before.min(room);
     Reach {
-        taken: taken,
+        taken,
         quit: (taken == before) & (taken < piece.len()),
     }
 }
@@ -35,49 +35,35 @@ fn before_quit(binary: Binary, piece: &[u8]) -> usize
     ensures { result ≡ quit_place binary piece.now }
 {
     match binary {
-        Binary::Ignore => piece.len(),
         Binary::Quit(byte) => lines::first_place(piece, byte),
-        Binary::Convert(_) => piece.len(),
+        Binary::Ignore | Binary::Convert(_) => piece.len(),
     }
 }
 
 // The first replaced byte so far. Once there is one, no piece is looked through for it.
 pub fn first_replaced(
-    place: Place,
+    place: Option<u64>,
     binary: Binary,
     terminator: u8,
     offset: u64,
     bytes: &[u8],
-) -> Place
+) -> Option<u64>
     requires { offset ≤ max_input }
     ensures { result ≡ first_of place (replaced_in binary terminator offset bytes.now) }
 {
-    match place {
-        Place::At(p) => Place::At(p),
-        Place::Nowhere => replaced_in(binary, terminator, offset, bytes),
-    }
+    place.or_else(|| replaced_in(binary, terminator, offset, bytes))
 }
 
-fn replaced_in(binary: Binary, terminator: u8, offset: u64, bytes: &[u8]) -> Place
+#[tactic(auto, using(lines::proofs::Laws::found_at, lines::proofs::Laws::found_nothing))]
+fn replaced_in(binary: Binary, terminator: u8, offset: u64, bytes: &[u8]) -> Option<u64>
     requires { offset ≤ max_input }
     ensures { result ≡ replaced_in binary terminator offset bytes.now }
 {
     match binary {
-        Binary::Ignore => Place::Nowhere,
-        Binary::Quit(_) => Place::Nowhere,
-        Binary::Convert(byte) => converted_place(byte, terminator, offset, bytes),
-    }
-}
-
-fn converted_place(byte: u8, terminator: u8, offset: u64, bytes: &[u8]) -> Place
-    requires { offset ≤ max_input }
-    ensures { result ≡ replaced_in (Binary.Convert byte) terminator offset bytes.now }
-{
-    if byte == terminator {
-        return Place::Nowhere;
-    }
-    match lines::find(bytes, byte) {
-        Found::At(i) => Place::At(offset + (i as u64)),
-        Found::Nothing => Place::Nowhere,
+        Binary::Convert(byte) if byte != terminator => {
+            let i = lines::find(bytes, byte)?;
+            Some(offset + (i as u64))
+        }
+        _ => None,
     }
 }

@@ -2,11 +2,10 @@
 // commands are listed in `replaying`.
 #![tactic(auto)]
 
-use definition::Settings;
-use forms::Asked;
-use replay_says::Said;
-use replay_words::{Command, ROOM};
+use definition::{Refusal, Settings};
+use replay_words::{Command, Memory, ROOM};
 use searcher::Searcher;
+use session::Refused;
 
 // How the script stands.
 #[derive(Clone, Copy)]
@@ -14,113 +13,85 @@ pub struct Script {
     pub searcher: Searcher,
     // how many bytes of the room are lent
     pub lent: usize,
-    // what is collected after the last command
-    pub said: Said,
 }
 
-// What a call gave; no more than the search as it was where the command makes none.
+// What a call gave; a command that makes none leaves the search as it was.
 #[derive(Clone, Copy)]
 pub struct Called {
-    pub searcher: Searcher,
-    pub lent: usize,
-    pub refusal: u64,
-    // bytes taken or rows written
-    pub count: usize,
-    pub other_form: bool,
+    pub script: Script,
+    // bytes taken or rows written, 0 of a call that does neither
+    pub count: Result<usize, Refusal>,
 }
 
 pub fn start() -> Script {
     Script {
         searcher: Searcher::closed(),
         lent: 0,
-        said: replay_says::nothing_said(),
-    }
-}
-
-// The search after a call, and what is said of it.
-pub fn after(called: Called, said: Said) -> Script {
-    let s = called.searcher;
-    Script {
-        searcher: s,
-        lent: called.lent,
-        said: said,
     }
 }
 
 // The call that a command makes.
-pub fn call(
-    script: Script,
-    command: Command,
-    line: &[u8],
-    room: &mut [u8],
-    table: &mut [u64],
-    bytes: &[u8],
-) -> Called {
+pub fn call(script: Script, command: Command, memory: &mut Memory) -> Called {
+    let Memory { room, table, bytes } = memory;
     match command {
-        Command::Open => open(script, line),
+        Command::Open(settings, window) => open(settings, window),
         Command::Offer(count) => offer(script, room, bytes, count),
         Command::Answer(hit, size) => answer(script, room, table, hit, size),
         Command::End => end(script),
-        Command::Lend(length) => standing(script, length, false),
-        _ => standing(script, script.lent, false),
+        Command::Lend(length) => served(script.searcher, length, 0),
+        _ => served(script.searcher, script.lent, 0),
     }
 }
 
-fn standing(script: Script, lent: usize, other_form: bool) -> Called {
-    let s = script.searcher;
+fn served(searcher: Searcher, lent: usize, count: usize) -> Called {
     Called {
-        searcher: s,
-        lent: lent,
-        refusal: 0,
-        count: 0,
-        other_form: other_form,
+        script: Script { searcher, lent },
+        count: Ok(count),
     }
 }
 
-fn gave(s: Searcher, lent: usize, refusal: u64, count: usize) -> Called {
+fn refused(refused: Refused<Searcher>, lent: usize) -> Called {
     Called {
-        searcher: s,
-        lent: lent,
-        refusal: refusal,
-        count: count,
-        other_form: false,
+        script: Script {
+            searcher: refused.next,
+            lent,
+        },
+        count: Err(refused.refusal),
     }
 }
 
-fn open(script: Script, line: &[u8]) -> Called {
-    match replay_words::settings_of(line) {
-        Asked::For(settings) => open_with(settings, replay_words::window_of(line)),
-        Asked::OtherForm => standing(script, script.lent, true),
+fn open(settings: Settings, window: usize) -> Called {
+    let lent = window.min(ROOM);
+    match Searcher::open(settings, window) {
+        Ok(searcher) => served(searcher, lent, 0),
+        Err(reason) => refused(reason, lent),
     }
-}
-
-fn open_with(settings: Settings, window: usize) -> Called {
-    let opened = Searcher::open(settings, window);
-    let s = opened.searcher;
-    gave(s, numbers::least(window, ROOM), opened.refusal, 0)
 }
 
 fn offer(script: Script, room: &mut [u8], bytes: &[u8], count: usize) -> Called {
-    let s = script.searcher;
-    let window = replay_says::within(script.lent, room);
-    let size = replay_says::within(count, bytes);
-    let offered = s.offer(&mut room[..window], &bytes[..size]);
-    let next = offered.searcher;
-    gave(next, script.lent, offered.refusal, offered.taken)
+    let window = script.lent.min(room.len());
+    let size = count.min(bytes.len());
+    match script.searcher.offer(&mut room[..window], &bytes[..size]) {
+        Ok(offered) => served(offered.next, script.lent, offered.taken),
+        Err(reason) => refused(reason, script.lent),
+    }
 }
 
 fn answer(script: Script, room: &[u8], table: &mut [u64], hit: bool, size: usize) -> Called {
-    let s = script.searcher;
-    let window = replay_says::within(script.lent, room);
-    let lent = numbers::least(size, table.len());
-    let answered = s.answer(&room[..window], &mut table[..lent], hit);
-    let next = answered.searcher;
-    gave(next, script.lent, answered.refusal, answered.rows)
+    let window = script.lent.min(room.len());
+    let lent = size.min(table.len());
+    match script
+        .searcher
+        .answer(&room[..window], &mut table[..lent], hit)
+    {
+        Ok(answered) => served(answered.next, script.lent, answered.rows),
+        Err(reason) => refused(reason, script.lent),
+    }
 }
 
 fn end(script: Script) -> Called {
-    let s = script.searcher;
-    let ended = s.tell_end();
-    let next = ended.searcher;
-    gave(next, script.lent, ended.refusal, 0)
+    match script.searcher.tell_end() {
+        Ok(searcher) => served(searcher, script.lent, 0),
+        Err(reason) => refused(reason, script.lent),
+    }
 }

@@ -5,11 +5,10 @@
 ghost use Rattle.std.specs.Prelude.{◌≡◌, ◌≤◌, length};
 ghost use Rattle.replay_input.specs.Input.{EndsBefore, is_end};
 
-use lines::Found;
 use output::Pending;
 use replay_says::Said;
 use std::io::{Read, Write};
-use streams::{Moved, Streams};
+use streams::{Failure, Streams};
 
 // The line that was found lies from `start` to `end`, what is not yet gone through from `from` to `to`.
 #[derive(Clone, Copy)]
@@ -20,7 +19,7 @@ pub struct Reading {
     pub to: usize,
     // how many lines were found
     pub lines: u64,
-    // no more will come
+    // no more will come: a flag, since lines that came before may still be there
     pub ended: bool,
     pub said: Said,
 }
@@ -38,9 +37,9 @@ pub fn nothing_read() -> Reading {
     }
 }
 
-// Finds the next line, behind which an answer of the most bytes has room; where the script is over all is written. A line
-// is bad before its end has come where it is longer than the longest. Turns are a bound for the proof: nothing lasts so
-// long.
+// Finds the next line, behind which an answer of the most bytes has room; where the script is over there is none, and all is
+// written. A line is bad before its end has come where it is longer than the longest. Turns are a bound for the proof: nothing
+// lasts so long.
 pub fn next_line<I: Read, O: Write, E: Write>(
     standard: &mut Streams<I, O, E>,
     reading: Reading,
@@ -48,54 +47,50 @@ pub fn next_line<I: Read, O: Write, E: Write>(
     out: &mut [u8],
     most: usize,
     longest: usize,
-) -> Reading {
-    let mut now = with_said(
-        reading,
-        replay_says::with_room(standard, reading.said, out, most),
-    );
-    let mut turns = u64::MAX;
-    while 0 < turns {
-        turns -= 1;
-        let said = now.said;
-        if said.over {
-            return with_said(now, replay_says::flushed(standard, said, out));
+) -> Option<Reading> {
+    let mut now = Reading {
+        said: replay_says::with_room(standard, reading.said, out, most),
+        ..reading
+    };
+    for _ in 0..u64::MAX {
+        if now.said.over {
+            replay_says::flushed(standard, now.said, out);
+            return None;
         }
-        let to = replay_says::within(now.to, input);
-        let from = numbers::least(now.from, to);
+        let to = now.to.min(input.len());
+        let from = now.from.min(to);
         match line_end(input, from, to) {
-            Found::At(end) => {
-                return Reading {
+            Some(end) => {
+                return Some(Reading {
                     start: from,
-                    end: end,
+                    end,
                     from: end + 1,
                     lines: replay_says::counted(now.lines),
                     ..now
-                };
+                });
             }
-            Found::Nothing => now = filled(standard, now, input, out, longest),
+            None => now = filled(standard, now, input, out, longest),
         }
     }
-    now
+    None
 }
 
 // Where the first line of a part of the input ends.
-fn line_end(input: &[u8], from: usize, to: usize) -> Found
+#[tactic(auto, using(lines::proofs::Laws::found_at))]
+fn line_end(input: &[u8], from: usize, to: usize) -> Option<usize>
     requires { (from ≤ to) × (to ≤ length input.now) }
     ensures { EndsBefore result to }
 {
-    match lines::find(&input[from..to], b'\n') {
-        Found::At(length) => Found::At(from + length),
-        Found::Nothing => Found::Nothing,
-    }
+    Some(from + lines::find(&input[from..to], b'\n')?)
 }
 
-// What a command said about the line that was found. A line that is no command ended the script, and is told as bad.
-pub fn answered(reading: Reading, said: Said, out: &mut [u8]) -> Reading {
-    if !said.over {
-        return with_said(reading, said);
-    }
-    let told = replay_says::bad_line(out, said.pending, reading.lines);
-    with_said(reading, told)
+// What a command said about the line that was found. A line that is no command is told as bad, and ends the script.
+pub fn answered(reading: Reading, told: Option<Pending>, out: &mut [u8]) -> Reading {
+    let said = match told {
+        Some(pending) => replay_says::more_said(pending),
+        None => replay_says::bad_line(out, reading.said.pending, reading.lines),
+    };
+    Reading { said, ..reading }
 }
 
 // Writes what is collected, moves what is not yet gone through to the input's front and reads once behind it.
@@ -106,13 +101,16 @@ fn filled<I: Read, O: Write, E: Write>(
     out: &mut [u8],
     longest: usize,
 ) -> Reading {
-    let to = replay_says::within(reading.to, input);
-    let from = numbers::least(reading.from, to);
+    let to = reading.to.min(input.len());
+    let from = reading.from.min(to);
     let rest = to - from;
     let bounded = bounded(reading.said, rest, reading.lines, out, longest);
     let said = replay_says::flushed(standard, bounded, out);
-    if said.over | reading.ended {
-        return with_said(reading, replay_says::last_said(said.pending));
+    if said.over || reading.ended {
+        return Reading {
+            said: replay_says::last_said(said.pending),
+            ..reading
+        };
     }
     line_buffer::roll(input, from, to);
     let moved = streams::read(&mut standard.input, &mut input[rest..]);
@@ -127,22 +125,21 @@ fn filled<I: Read, O: Write, E: Write>(
 
 // A line that is too long is bad before its end has come.
 fn bounded(said: Said, rest: usize, lines: u64, out: &mut [u8], longest: usize) -> Said {
-    if said.over | (rest <= longest) {
+    if said.over || rest <= longest {
         return said;
     }
     replay_says::bad_line(out, said.pending, replay_says::counted(lines))
 }
 
 // Where the input ends after a read behind its first bytes. A last line needs no newline: it gets one.
-fn reached(moved: Moved, rest: usize, input: &mut [u8]) -> usize
+fn reached(moved: Result<usize, Failure>, rest: usize, input: &mut [u8]) -> usize
     requires { rest ≤ length input.old }
     ensures { result ≤ length input.new }
 {
     match moved {
-        Moved::Bytes(n) => rest + numbers::least(n, input.len() - rest),
-        Moved::Nothing => ended_at(rest, input),
-        Moved::Interrupted => rest,
-        Moved::Failed(_) => rest,
+        Ok(0) => ended_at(rest, input),
+        Ok(n) => rest + n.min(input.len() - rest),
+        Err(_) => rest,
     }
 }
 
@@ -150,43 +147,32 @@ fn ended_at(rest: usize, input: &mut [u8]) -> usize
     requires { rest ≤ length input.old }
     ensures { result ≤ length input.new }
 {
-    if rest == 0 {
-        return 0;
-    }
-    if input.len() <= rest {
+    if rest == 0 || rest == input.len() {
         return rest;
     }
     input[rest] = b'\n';
     rest + 1
 }
 
-fn is_end(moved: Moved) -> bool
+// Only a read that gave nothing is at the end.
+fn is_end(moved: Result<usize, Failure>) -> bool
     ensures { result ≡ is_end moved }
 {
-    match moved {
-        Moved::Bytes(_) => false,
-        Moved::Nothing => true,
-        Moved::Interrupted => false,
-        Moved::Failed(_) => false,
-    }
+    matches!(moved, Ok(0))
 }
 
 // Where a signal came first, the next turn reads again.
-fn told<E: Write>(errors: &mut E, said: Said, moved: Moved, out: &mut [u8]) -> Said {
+fn told<E: Write>(
+    errors: &mut E,
+    said: Said,
+    moved: Result<usize, Failure>,
+    out: &mut [u8],
+) -> Said {
     match moved {
-        Moved::Bytes(_) => said,
-        Moved::Nothing => said,
-        Moved::Interrupted => said,
-        Moved::Failed(reason) => failed(errors, said.pending, reason, out),
+        Ok(_) | Err(Failure::Interrupted) => said,
+        Err(Failure::Errno(reason)) => {
+            let pending = streams::tell_failed_read(errors, out, said.pending, reason);
+            replay_says::last_said(pending)
+        }
     }
-}
-
-fn failed<E: Write>(errors: &mut E, pending: Pending, reason: i32, out: &mut [u8]) -> Said {
-    replay_says::last_said(streams::tell_failed_read(errors, out, pending, reason))
-}
-
-fn with_said(reading: Reading, said: Said) -> Reading {
-    let mut now = reading;
-    now.said = said;
-    now
 }

@@ -2,16 +2,15 @@
 // It knows no searcher, so that a command takes and gives no more than what it says.
 #![tactic(auto)]
 
-ghost use Rattle.std.specs.Prelude.{◌≡◌, true, false, [], ◌∷◌, min, ◌+◌, ◌≤◌, length};
-ghost use Rattle.definition.specs.Rows.{row_size};
+ghost use Rattle.std.specs.Prelude.{◌≡◌, true, false, [], ◌∷◌, min, ◌+◌};
 ghost use Rattle.output.specs.Output.{collected, collected_in, decimal};
-ghost use Rattle.io.specs.Counts.{IsPrefixLen};
 
 use output::Pending;
 use std::io::Write;
 use streams::Streams;
 
-// What is collected, and whether the script is over: by a bad line, its end or a failure.
+// What is collected, and whether the script is over: by a bad line, its end or a failure. A struct, since what is collected is
+// written in both cases.
 #[derive(Clone, Copy)]
 pub struct Said {
     pub pending: Pending,
@@ -27,7 +26,7 @@ pub fn more_said(pending: Pending) -> Said
     ensures { (result.pending ≡ pending) × (result.over ≡ false) }
 {
     Said {
-        pending: pending,
+        pending,
         over: false,
     }
 }
@@ -37,7 +36,7 @@ pub fn last_said(pending: Pending) -> Said
     ensures { (result.pending ≡ pending) × (result.over ≡ true) }
 {
     Said {
-        pending: pending,
+        pending,
         over: true,
     }
 }
@@ -49,8 +48,7 @@ pub fn with_room<I, O: Write, E: Write>(
     out: &[u8],
     most: usize,
 ) -> Said {
-    let pending = said.pending;
-    if most <= out.len() - within(pending.length, out) {
+    if most <= out.len().saturating_sub(said.pending.length) {
         return said;
     }
     flushed(standard, said, out)
@@ -63,11 +61,11 @@ pub fn flushed<I, O: Write, E: Write>(
     out: &[u8],
 ) -> Said {
     let pending = said.pending;
-    let length = within(pending.length, out);
+    let length = pending.length.min(out.len());
     let written = streams::write(&mut standard.output, &mut standard.errors, &out[..length]);
     Said {
         pending: output::nothing_pending(),
-        over: said.over | pending.lost | !written,
+        over: said.over || pending.lost || !written,
     }
 }
 
@@ -75,25 +73,12 @@ pub fn flushed<I, O: Write, E: Write>(
 pub fn counted(lines: u64) -> u64
     ensures { result ≡ min (lines + 1) 18446744073709551615 }
 {
-    if lines < u64::MAX { lines + 1 } else { lines }
+    lines.saturating_add(1)
 }
 
 // Says that a line is bad, which ends the script.
 pub fn bad_line(out: &mut [u8], pending: Pending, line: u64) -> Said {
-    last_said(said_one(out, pending, b"bad line ", line))
-}
-
-// A line of a text and a number.
-pub fn said_one(out: &mut [u8], pending: Pending, text: &[u8], number: u64) -> Pending {
-    let told = said_number(out, pending, text, number);
-    ended_line(out, told)
-}
-
-// A line of a text and two numbers.
-pub fn said_two(out: &mut [u8], pending: Pending, text: &[u8], first: u64, second: u64) -> Pending {
-    let told = said_number(out, pending, text, first);
-    let both = spaced(out, told, second);
-    ended_line(out, both)
+    last_said(said_numbers(out, pending, b"bad line", &[line]))
 }
 
 // A line of a text and bytes.
@@ -103,18 +88,14 @@ pub fn said_bytes(out: &mut [u8], pending: Pending, text: &[u8], bytes: &[u8]) -
     ended_line(out, told)
 }
 
-// A line of a text and numbers.
+// A line of a text and numbers, a space before each.
 pub fn said_numbers(out: &mut [u8], pending: Pending, text: &[u8], numbers: &[u64]) -> Pending {
-    let mut told = output::put(out, pending, text);
-    let mut i = 0;
-    while i < numbers.len() {
-        told = spaced(out, told, numbers[i]);
-        i += 1;
-    }
+    let named = output::put(out, pending, text);
+    let told = separated(out, named, b" ", numbers);
     ended_line(out, told)
 }
 
-// A line of a text, a refusal, how many rows, and those rows of a table.
+// A line of a text, a refusal by its number, which is what is said, how many rows, and those rows of a table.
 pub fn said_rows(
     out: &mut [u8],
     pending: Pending,
@@ -123,32 +104,23 @@ pub fn said_rows(
     table: &[u64],
     rows: usize,
 ) -> Pending {
-    let count = numbers::least(rows, table.len() / definition::ROW);
-    let refused = said_number(out, pending, text, refusal);
-    let mut told = spaced(out, refused, rows as u64);
-    let mut i = 0;
-    while i < count {
-        told = said_row(out, told, table, definition::ROW * i);
-        i += 1;
+    let named = output::put(out, pending, text);
+    let mut told = separated(out, named, b" ", &[refusal, rows as u64]);
+    for row in table.chunks_exact(definition::ROW).take(rows) {
+        told = separated(out, told, b",", row);
     }
     ended_line(out, told)
 }
 
-fn said_row(out: &mut [u8], pending: Pending, table: &[u64], at: usize) -> Pending
-    requires { at + row_size ≤ length table.now }
-{
-    let kind = spaced(out, pending, table[at]);
-    let offset = joined(out, kind, table[at + 1]);
-    let size = joined(out, offset, table[at + 2]);
-    joined(out, size, table[at + 3])
-}
-
-fn spaced(out: &mut [u8], pending: Pending, number: u64) -> Pending {
-    said_number(out, pending, b" ", number)
-}
-
-fn joined(out: &mut [u8], pending: Pending, number: u64) -> Pending {
-    said_number(out, pending, b",", number)
+// Numbers behind a space, a separator between them.
+fn separated(out: &mut [u8], pending: Pending, separator: &[u8], numbers: &[u64]) -> Pending {
+    let mut told = pending;
+    let mut before: &[u8] = b" ";
+    for number in numbers {
+        told = said_number(out, told, before, *number);
+        before = separator;
+    }
+    told
 }
 
 // The number stands behind the text.
@@ -165,12 +137,4 @@ fn ended_line(out: &mut [u8], pending: Pending) -> Pending
     ensures out_after { out.new ≡ collected_in pending (10 ∷ []) out.old }
 {
     output::put(out, pending, b"\n")
-}
-
-// As many of some bytes as there are, at most n.
-pub fn within(n: usize, bytes: &[u8]) -> usize
-    ensures prefix_len { IsPrefixLen result bytes.now }
-    ensures upper_bound { result ≤ n }
-{
-    numbers::least(n, bytes.len())
 }

@@ -1,13 +1,9 @@
--- What the words behind a command's name ask for; a word that is out of reach makes the line unknown.
-use Rattle.std.specs.Prelude.{ℕ, ◌+◌, ◌*◌, cond, ◌&&◌, eqb, ltb}
+-- What the words behind a command's name ask for; where a word is out of reach the line is no command.
+use Rattle.std.specs.Prelude.{ℕ, ◌+◌, ◌*◌, Bool, cond, ◌&&◌, eqb, leb, Option, Some, None}
 use Rattle.definition.specs.Bounds.{max_context, max_window}
 use Rattle.definition.specs.Rows.{row_size}
-use Rattle.line_words.specs.Numbers.{value_of, within_of}
-use Rattle.hex_text.specs.declared.Decoded.{Decoded}
-use Rattle.hex_text.specs.declared.Decoded.TheVariants.{Bytes, NoBytes}
-use Rattle.line_words.specs.declared.Number.{Number}
 use Rattle.replay_words.specs.declared.Command.{Command}
-use Rattle.replay_words.specs.declared.Command.TheVariants.{Answer, Lend, Offer, Table, Unknown}
+use Rattle.replay_words.specs.declared.Command.TheVariants.{Answer, Lend, Offer, Poke, Table}
 
 -- how many bytes the room has
 abbrev pub room : ℕ
@@ -17,18 +13,30 @@ room = max_window + 1
 abbrev pub table : ℕ
 table = row_size * (max_context + 4)
 
-abbrev pub byte_of : Number → ℕ
-byte_of n = cond (ltb (value_of n) 256) (value_of n) 0
+-- a number that is at most so large
+abbrev pub at_most : ℕ → ℕ → Option ℕ
+at_most n most = cond (leb n most) (Some n) None
 
-abbrev pub offer_of : Decoded → Command
-offer_of (Bytes count) = Offer count
-offer_of NoBytes = Unknown
+abbrev pub offer_of : Option ℕ → Option Command
+offer_of (Some count) = Some (Offer count)
+offer_of None = None
 
-unfoldable pub lend_of : Number → Command
-lend_of length = cond (within_of length room) (Lend (value_of length)) Unknown
+abbrev pub lend_of : Option ℕ → Option Command
+lend_of (Some length) = cond (leb length room) (Some (Lend length)) None
+lend_of None = None
 
-unfoldable pub answer_of : Number → Number → Command
-answer_of hit size = cond (within_of hit 1 && within_of size table) (Answer (eqb (value_of hit) 1) (value_of size)) Unknown
+abbrev pub answer_of : Option ℕ → Option ℕ → Option Command
+answer_of (Some hit) (Some size) = cond (leb hit 1 && leb size table) (Some (Answer (eqb hit 1) size)) None
+answer_of (Some hit) None = None
+answer_of None size = None
 
-unfoldable pub table_of : Number → Number → Command
-table_of first last = cond (within_of first (value_of last) && within_of last table) (Table (value_of first) (value_of last)) Unknown
+abbrev pub table_of : Option ℕ → Option ℕ → Option Command
+table_of (Some first) (Some last) = cond (leb first last && leb last table) (Some (Table first last)) None
+table_of (Some first) None = None
+table_of None last = None
+
+-- the bytes have room behind the place
+abbrev pub poke_of : Option ℕ → Option ℕ → Option Command
+poke_of (Some place) (Some count) = cond (leb place room && leb (place + count) room) (Some (Poke place count)) None
+poke_of (Some place) None = None
+poke_of None count = None

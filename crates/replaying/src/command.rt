@@ -22,19 +22,18 @@
 // ends the script, and whoever counts the lines says that it is bad.
 use output::Pending;
 use replay_calls::Script;
+use replay_words::Memory;
 
-// The command of a line.
+// The command of a line, where it is one: what is collected after it.
 pub fn act(
-    script: Script,
+    script: &mut Script,
     pending: Pending,
     line: &[u8],
-    room: &mut [u8],
-    table: &mut [u64],
-    bytes: &mut [u8],
+    memory: &mut Memory,
     out: &mut [u8],
-) -> Script {
-    let command = replay_words::command_of(line, bytes);
-    let called = replay_calls::call(script, command, line, room, table, bytes);
-    let said = replay_answers::say(called, command, pending, room, table, bytes, out);
-    replay_calls::after(called, said)
+) -> Option<Pending> {
+    let command = replay_words::command_of(line, &mut memory.bytes)?;
+    let called = replay_calls::call(*script, command, memory);
+    *script = called.script;
+    Some(replay_answers::say(called, command, pending, memory, out))
 }

@@ -7,12 +7,9 @@
 
 mod command;
 
-use replay_words::{ROOM, TABLE};
+use replay_words::{Memory, PIECE, ROOM, TABLE};
 use std::io::{Read, Write};
 use streams::Streams;
-
-// The longest piece that a command writes.
-const PIECE: usize = 4_096;
 
 // The longest line that can be a command: an offer or a poke of a whole piece, its words and two digits a byte.
 const LONGEST: usize = 2 * PIECE + 18;
@@ -22,39 +19,34 @@ const LONGEST: usize = 2 * PIECE + 18;
 const LONGEST_ANSWER: usize = 2 * ROOM + 126;
 
 pub fn play<I: Read, O: Write, E: Write>(standard: &mut Streams<I, O, E>) {
-    let mut room = [0u8; ROOM];
-    let mut table = [9u64; TABLE];
-    let mut bytes = [0u8; PIECE];
+    let mut memory = Memory {
+        room: [0u8; ROOM],
+        table: [9u64; TABLE],
+        bytes: [0u8; PIECE],
+    };
     let mut input = [0u8; 65_536];
     let mut out = [0u8; 262_144];
-    run(
-        standard, &mut room, &mut table, &mut bytes, &mut input, &mut out,
-    );
+    run(standard, &mut memory, &mut input, &mut out);
 }
 
 // Turns are a bound for the proof: nothing lasts so long.
 fn run<I: Read, O: Write, E: Write>(
     standard: &mut Streams<I, O, E>,
-    room: &mut [u8],
-    table: &mut [u64],
-    bytes: &mut [u8],
+    memory: &mut Memory,
     input: &mut [u8],
     out: &mut [u8],
 ) {
     let mut script = replay_calls::start();
     let mut reading = replay_input::nothing_read();
-    let mut turns = u64::MAX;
-    while 0 < turns {
-        turns -= 1;
-        reading = replay_input::next_line(standard, reading, input, out, LONGEST_ANSWER, LONGEST);
-        let said = reading.said;
-        if said.over {
+    for _ in 0..u64::MAX {
+        let next = replay_input::next_line(standard, reading, input, out, LONGEST_ANSWER, LONGEST);
+        let Some(found) = next else {
             return;
-        }
-        let end = replay_says::within(reading.end, input);
-        let start = numbers::least(reading.start, end);
+        };
+        let end = found.end.min(input.len());
+        let start = found.start.min(end);
         let line = &input[start..end];
-        script = command::act(script, said.pending, line, room, table, bytes, out);
-        reading = replay_input::answered(reading, script.said, out);
+        let told = command::act(&mut script, found.said.pending, line, memory, out);
+        reading = replay_input::answered(found, told, out);
     }
 }

@@ -6,24 +6,14 @@ ghost use Rattle.definition.specs.Rows.{flat, row_size};
 ghost use Rattle.definition.specs.Text.{lines, put_at};
 ghost use Rattle.rows.specs.Table.{BeforeFits, before_numbers};
 
-use definition::Row;
+use definition::{Kind, ROW, Row};
 
-pub const MATCH: u64 = 1;
-
-pub const BEFORE: u64 = 2;
-
-pub const AFTER: u64 = 3;
-
-pub const OTHER: u64 = 4;
-
-pub const BREAK: u64 = 5;
-
-// One row, from a place in the table on.
+// One row, from a place in the table on. Four stores: with copy_from_slice the numbers go by way of the stack.
 pub fn put_row(table: &mut [u64], at: usize, row: Row)
     requires { at + row_size ≤ length table.old }
     ensures { table.new ≡ put_at at (flat row) table.old }
 {
-    table[at] = row.kind;
+    table[at] = u64::from(row.kind);
     table[at + 1] = row.offset;
     table[at + 2] = row.length;
     table[at + 3] = row.number;
@@ -41,18 +31,21 @@ pub fn put_before(
     requires { BeforeFits (length table.old) at (length part.now) (length (lines terminator part.now)) offset number }
     ensures { table.new ≡ put_at at (before_numbers terminator offset number part.now) table.old }
 {
-    let mut i = 0;
-    let mut k = 0;
-    while i < part.len() {
-        let length = lines::step(&part[i..], terminator);
-        let row = Row {
-            kind: BEFORE,
-            offset: offset + (i as u64),
-            length: length as u64,
-            number: number + (k as u64),
-        };
-        put_row(table, at + definition::ROW * k, row);
-        i += length;
-        k += 1;
+    let mut rest = part;
+    let mut place = at;
+    let mut row = Row {
+        kind: Kind::Before,
+        offset: offset,
+        length: 0,
+        number: number,
+    };
+    while !rest.is_empty() {
+        let length = lines::step(rest, terminator);
+        row.length = length as u64;
+        put_row(table, place, row);
+        rest = &rest[length..];
+        place += ROW;
+        row.offset += row.length;
+        row.number += 1;
     }
 }

@@ -1,10 +1,9 @@
 -- The promises of specs/Promises.antt: the first two lines, read by read, then what every program over the driver is promised.
+use Rattle.std.specs.Prelude.{Option, Some, None}
 use Rattle.std.proofs.Common.{◌≡◌, ℕ, zero, suc, ◌+◌, ◌*◌, ◌<◌, ◌≤◌, Bool, true, false, eqb, List, [], ◌∷◌, ◌++◌, length, take, drop, sym, refl, ap, ◌∙◌, subst, append_assoc, append-nil, arith, length-append, length-drop, eqb-true}
 use lib.Seq.{drop-append-le, take-append-le}
 use Rattle.definition.specs.declared.Settings.{Settings}
 use Rattle.definition.specs.Text.{first_place}
-use Rattle.forms.specs.declared.Asked.{Asked}
-use Rattle.forms.specs.declared.Asked.TheVariants.{For, OtherForm}
 use Rattle.forms.specs.First.{asked_of}
 use Rattle.machine.specs.Machine.{Read, Turn, ended, ends, failed, goes, run, some, wants}
 use Rattle.machine.specs.Program.{Standing, begins, driver, hears, turns}
@@ -202,30 +201,30 @@ module _ (w : List ℕ) (size : length w ≡ window_size) where
   -- the search is opened, or refused
   open_prints : (c : Settings) (b : Bool) → eqb (opened c (length w)).refusal 0 ≡ b → (behind : List ℕ) (reads : List Read) (n : ℕ)
       → 2 * length (behind ++ bytes_of reads) + 2 * length reads + 4 ≤ n
-      → SearchPrints (asked_line (For c) (behind ++ bytes_of reads)) (ending_of reads) (run search (suc n) (asks (For c) [] w behind) reads)
+      → SearchPrints (asked_line (Some c) (behind ++ bytes_of reads)) (ending_of reads) (run search (suc n) (asks (Some c) [] w behind) reads)
   open_prints c true e behind reads n l =
       let served = eqb-true (opened c (length w)).refusal 0 e in
-      let turn : asks (For c) [] w behind ≡ goes [] (record { stage = Second; literal = []; standing = begins c w behind }) = rw e in
-      let heading : asked_line (For c) (behind ++ bytes_of reads) ≡ second_line (looked_at (behind ++ bytes_of reads)) c (behind ++ bytes_of reads) =
+      let turn : asks (Some c) [] w behind ≡ goes [] (record { stage = Second; literal = []; standing = begins c w behind }) = rw e in
+      let heading : asked_line (Some c) (behind ++ bytes_of reads) ≡ second_line (looked_at (behind ++ bytes_of reads)) c (behind ++ bytes_of reads) =
       rw (ap (λ x. eqb (opened c x).refusal 0) (sym size) ∙ e)
       in
-      subst (λ h. SearchPrints h (ending_of reads) (run search (suc n) (asks (For c) [] w behind) reads)) (sym heading)
+      subst (λ h. SearchPrints h (ending_of reads) (run search (suc n) (asks (Some c) [] w behind) reads)) (sym heading)
       (subst (SearchPrints (second_line (looked_at (behind ++ bytes_of reads)) c (behind ++ bytes_of reads)) (ending_of reads))
-      (sym (run_goes search n (asks (For c) [] w behind) reads [] (record { stage = Second; literal = []; standing = begins c w behind }) turn))
+      (sym (run_goes search n (asks (Some c) [] w behind) reads [] (record { stage = Second; literal = []; standing = begins c w behind }) turn))
       (second_reads c w size served n behind reads l))
   open_prints c false e behind reads n l =
       let k = (opened c (length w)).refusal in
-      let turn : asks (For c) [] w behind ≡ ends (refused_text k) = rw e in
-      let heading : asked_line (For c) (behind ++ bytes_of reads) ≡ bad k =
+      let turn : asks (Some c) [] w behind ≡ ends (refused_text k) = rw e in
+      let heading : asked_line (Some c) (behind ++ bytes_of reads) ≡ bad k =
       rw (ap (λ x. eqb (opened c x).refusal 0) (sym size) ∙ e) (ap (λ x. bad (opened c x).refusal) (sym size))
       in
-      subst (λ h. SearchPrints h (ending_of reads) (run search (suc n) (asks (For c) [] w behind) reads)) (sym heading)
-      (run_ends search n (asks (For c) [] w behind) reads (refused_text k) turn)
+      subst (λ h. SearchPrints h (ending_of reads) (run search (suc n) (asks (Some c) [] w behind) reads)) (sym heading)
+      (run_ends search n (asks (Some c) [] w behind) reads (refused_text k) turn)
 
-  ask_prints : (a : Asked) (behind : List ℕ) (reads : List Read) (n : ℕ) → 2 * length (behind ++ bytes_of reads) + 2 * length reads + 4 ≤ n
+  ask_prints : (a : Option Settings) (behind : List ℕ) (reads : List Read) (n : ℕ) → 2 * length (behind ++ bytes_of reads) + 2 * length reads + 4 ≤ n
       → SearchPrints (asked_line a (behind ++ bytes_of reads)) (ending_of reads) (run search (suc n) (asks a [] w behind) reads)
-  ask_prints (For c) behind reads n l = open_prints c (eqb (opened c (length w)).refusal 0) refl behind reads n l
-  ask_prints OtherForm behind reads n l = run_ends search n (ends (refused_text 1)) reads (refused_text 1) refl
+  ask_prints (Some c) behind reads n l = open_prints c (eqb (opened c (length w)).refusal 0) refl behind reads n l
+  ask_prints None behind reads n l = run_ends search n (ends (refused_text 1)) reads (refused_text 1) refl
 
   asked_prints : (rest : List ℕ) (reads : List Read) (n : ℕ) → first_place newline rest < length rest
       → 2 * length (rest ++ bytes_of reads) + 2 * length reads + 3 ≤ n

@@ -1,9 +1,10 @@
 -- What the steps come to: the turns of one after the other are turns of the machine.
+use Rattle.std.specs.Prelude.{Result, Ok, Err}
 use Rattle.std.proofs.Common.{◌≡◌, ℕ, zero, suc, ◌+◌, List, [], ◌∷◌, ◌++◌, sym, refl, ap, ◌∙◌, subst, append_assoc, append-nil, arith}
 use Rattle.machine.specs.Machine.{Read, Turn, ended, ends, failed, run, some, wants}
 use Rattle.definition.specs.Text.{part}
-use Rattle.streams.specs.declared.Moved.{Moved}
-use Rattle.streams.specs.declared.Moved.TheVariants.{Bytes, Nothing, Interrupted, Failed}
+use Rattle.streams.specs.declared.Failure.{Failure}
+use Rattle.streams.specs.declared.Failure.TheVariants.{Interrupted, Errno}
 use Rattle.search_machine.specs.declared.Phase.{Phase}
 use Rattle.search_machine.specs.declared.Phase.TheVariants.{Going, Wants, Over}
 use Rattle.machine.specs.Promises.{bytes_of, ending_of}
@@ -65,13 +66,13 @@ signal_comes Over st text next g =
     let z : ◌≡◌ {A = ℕ} 0 1 = cc in
     absurd (omega arith)
 
-hears_come : (got : Moved) (phase : Phase) (to : ℕ) (input : List ℕ) (st : State) (text : List ℕ) (next : State)
+hears_come : (got : Result ℕ Failure) (phase : Phase) (to : ℕ) (input : List ℕ) (st : State) (text : List ℕ) (next : State)
     → Gives phase text next (heard_as got to input st)
     → Comes (wants st) (read_of got to input) text (next_at phase next)
-hears_come (Bytes n) phase to input st text next g = read_comes phase (some (part to (to + n) input)) st text next g
-hears_come Nothing phase to input st text next g = read_comes phase ended st text next g
-hears_come Interrupted phase to input st text next g = signal_comes phase st text next g
-hears_come (Failed e) phase to input st text next g = read_comes phase failed st text next g
+hears_come (Ok zero) phase to input st text next g = read_comes phase ended st text next g
+hears_come (Ok (suc n)) phase to input st text next g = read_comes phase (some (part to (to + suc n) input)) st text next g
+hears_come (Err Interrupted) phase to input st text next g = signal_comes phase st text next g
+hears_come (Err (Errno e)) phase to input st text next g = read_comes phase failed st text next g
 
 -- # One step after the other
 

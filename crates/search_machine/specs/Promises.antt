@@ -1,9 +1,7 @@
 -- What `search` is promised to print, for any reads. The proofs stand in proofs/Promises.antt, under the statements' names in small
 -- letters.
-use Rattle.std.specs.Prelude.{◌≡◌, ℕ, ◌+◌, ◌*◌, ◌≤◌, cond, List, [], length, take, drop, ◌==◌}
+use Rattle.std.specs.Prelude.{◌≡◌, ℕ, ◌+◌, ◌*◌, ◌≤◌, cond, List, [], length, take, drop, ◌==◌, Option, Some, None}
 use Rattle.definition.specs.declared.Settings.{Settings}
-use Rattle.forms.specs.declared.Asked.{Asked}
-use Rattle.forms.specs.declared.Asked.TheVariants.{For, OtherForm}
 use Rattle.forms.specs.First.{asked_of}
 use Rattle.machine.specs.Machine.{Read, run}
 use Rattle.machine.specs.Promises.{Ending, Prints, broken, bytes_of, ending_of, unended, whole}
@@ -28,10 +26,10 @@ second_line (Whole n) c bytes = good c (take n bytes) (drop (n + 1) bytes)
 second_line Unfinished c bytes = short
 second_line TooLong c bytes = bad 1
 
-abbrev pub asked_line : Asked → List ℕ → Heading
-asked_line (For c) bytes =
+abbrev pub asked_line : Option Settings → List ℕ → Heading
+asked_line (Some c) bytes =
     cond ((opened c window_size).refusal == 0) (second_line (looked_at bytes) c bytes) (bad (opened c window_size).refusal)
-asked_line OtherForm bytes = bad 1
+asked_line None bytes = bad 1
 
 abbrev pub first_line : Seen → List ℕ → Heading
 first_line (Whole n) bytes = asked_line (asked_of (take n bytes)) (drop (n + 1) bytes)

@@ -1,8 +1,7 @@
 -- The program `search` as a machine: a first line with the settings, a second with the literal, then the text.
-use Rattle.std.specs.Prelude.{ℕ, ◌+◌, cond, List, [], ◌++◌, map, length, take, drop, ◌==◌}
+use Rattle.std.specs.Prelude.{ℕ, ◌+◌, cond, List, [], ◌++◌, map, length, take, drop, ◌==◌, Option, Some, None}
 use mathlib.Core.List.{flatten}
-use Rattle.forms.specs.declared.Asked.{Asked}
-use Rattle.forms.specs.declared.Asked.TheVariants.{For, OtherForm}
+use Rattle.definition.specs.declared.Settings.{Settings}
 use Rattle.forms.specs.First.{asked_of}
 use Rattle.literal_places.specs.Literal.{stands}
 use Rattle.machine.specs.Machine.{Machine, Read, Turn, ended, ends, failed, goes, some, wants}
@@ -45,12 +44,12 @@ in_text literal (ends text) = ends text
 
 -- # The first line
 
-abbrev pub asks : Asked → List ℕ → List ℕ → List ℕ → Turn State
-asks (For c) literal window rest =
+abbrev pub asks : Option Settings → List ℕ → List ℕ → List ℕ → Turn State
+asks (Some c) literal window rest =
     cond ((opened c (length window)).refusal == 0)
     (goes [] (state_at Second literal (opened c (length window)).session window rest))
     (ends (refused_text (opened c (length window)).refusal))
-asks OtherForm literal window rest = ends (refused_text 1)
+asks None literal window rest = ends (refused_text 1)
 
 abbrev pub first_turn : Seen → State → Turn State
 first_turn (Whole n) st =

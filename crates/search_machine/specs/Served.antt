@@ -1,11 +1,11 @@
 -- The whole run: steps, each followed by a write of what it left pending, as `serve` makes them. What is written is what the machine
 -- prints for what was read. The proofs stand in proofs/Served.antt, under the statements' names in small letters.
-use Rattle.std.specs.Prelude.{◌≡◌, ℕ, ◌+◌, List, [], ◌∷◌, ◌++◌, length}
+use Rattle.std.specs.Prelude.{◌≡◌, ℕ, zero, suc, ◌+◌, List, [], ◌∷◌, ◌++◌, length, Result, Ok, Err}
 use Rattle.definition.specs.Text.{part}
 use Rattle.machine.specs.Machine.{Read, Turn, ended, ends, failed, run, some, wants}
 use Rattle.machine.specs.Promises.{bytes_of, ending_of}
-use Rattle.streams.specs.declared.Moved.{Moved}
-use Rattle.streams.specs.declared.Moved.TheVariants.{Bytes, Nothing, Interrupted, Failed}
+use Rattle.streams.specs.declared.Failure.{Failure}
+use Rattle.streams.specs.declared.Failure.TheVariants.{Interrupted, Errno}
 use Rattle.search_machine.specs.declared.Phase.{Phase}
 use Rattle.search_machine.specs.declared.Phase.TheVariants.{Going, Wants, Over}
 use Rattle.search_machine.specs.declared.Search.{Search}
@@ -33,11 +33,11 @@ abbrev pub next_of : Held → Turn State
 next_of h = next_at h.search.phase (state_of h)
 
 -- the read that the machine hears, if any
-abbrev pub read_of : Moved → ℕ → List ℕ → List Read
-read_of (Bytes n) to input = some (part to (to + n) input) ∷ []
-read_of Nothing to input = ended ∷ []
-read_of Interrupted to input = []
-read_of (Failed e) to input = failed ∷ []
+abbrev pub read_of : Result ℕ Failure → ℕ → List ℕ → List Read
+read_of (Ok zero) to input = ended ∷ []
+read_of (Ok (suc n)) to input = some (part to (to + suc n) input) ∷ []
+read_of (Err Interrupted) to input = []
+read_of (Err (Errno e)) to input = failed ∷ []
 
 -- once what a step left pending is written
 abbrev pub after : Search → List ℕ → List ℕ → List ℕ → Held

@@ -1,15 +1,17 @@
 -- What the code is held to: how its values and buffers stand for the machine's state, and what each part of it does to the machine.
-use Rattle.std.specs.Prelude.{◌≡◌, ℕ, ◌+◌, ◌-◌, ◌*◌, ◌<◌, ◌≤◌, false, List, [], length, take, ◌≢◌}
+use Rattle.std.specs.Prelude.{◌≡◌, ℕ, zero, suc, ◌+◌, ◌-◌, ◌*◌, ◌<◌, ◌≤◌, false, List, [], length, take, Result, Ok, Err}
+use Rattle.definition.specs.Numbers.{refusal_number}
 use Rattle.definition.specs.Text.{part}
 use Rattle.rare_bytes.specs.declared.Pair.{Pair}
 use Rattle.machine.specs.Machine.{Closes, Leads, Turn, ended, ends, failed, goes, some, wants}
 use Rattle.machine.specs.Program.{table_size}
 use Rattle.searcher.specs.declared.Searcher.{Searcher}
 use Rattle.searcher.specs.Door.{searcher}
-use Rattle.session.specs.declared.OpenOutcome.{OpenOutcome}
+use Rattle.session.specs.declared.Refused.{Refused}
+use Rattle.session.specs.declared.Session.{Session}
 use Rattle.session.specs.Sound.{closed}
-use Rattle.streams.specs.declared.Moved.{Moved}
-use Rattle.streams.specs.declared.Moved.TheVariants.{Bytes, Nothing, Interrupted, Failed}
+use Rattle.streams.specs.declared.Failure.{Failure}
+use Rattle.streams.specs.declared.Failure.TheVariants.{Interrupted, Errno}
 use Rattle.output.specs.declared.Pending.{Pending}
 use Rattle.output.specs.Output.{Tells, none}
 use Rattle.search_machine.specs.declared.Phase.{Phase}
@@ -198,20 +200,20 @@ pub record Turned (st : State) (r : Search) (window literal input out : List ℕ
   pub placed : Placed r input
   pub collects : Collects r out
 
--- an opening was served or refused, and the second line starts at a place of the input
-pub data OpenedTo (s : Search) (o : OpenOutcome) (from : ℕ) (out : List ℕ) (r : Search) (after : List ℕ) : Type 0 where
-  served : o.refusal ≡ 0 → r ≡ opened_with s (searcher o.session) from → after ≡ out → OpenedTo s o from out r after
-  refused : (p : Pending) → (o.refusal ≢ 0) → r ≡ over_with s p → Tells s.pending out (refused_text o.refusal) p after
-      → OpenedTo s o from out r after
+-- an opening was served, and the second line starts at a place of the input; or it was refused, and that is printed
+abbrev pub OpenedTo : Search → Result Session (Refused Session) → ℕ → List ℕ → Search → List ℕ → Type 0
+OpenedTo s (Ok opened) from out r after = (r ≡ opened_with s (searcher opened) from) × (after ≡ out)
+OpenedTo s (Err refused) from out r after =
+    (p : Pending) × (r ≡ over_with s p) × Tells s.pending out (refused_text (refusal_number refused.refusal)) p after
 
 -- # What a read gave
 
--- the read as the machine hears it: its bytes lie behind what was left; where a signal came first it waits on
-abbrev pub heard_as : Moved → ℕ → List ℕ → State → Turn State
-heard_as (Bytes n) to input st = hears_of (some (part to (to + n) input)) st
-heard_as Nothing to input st = hears_of ended st
-heard_as Interrupted to input st = wants st
-heard_as (Failed e) to input st = hears_of failed st
+-- the read as the machine hears it: no byte is the end; else its bytes lie behind what was left; where a signal came first it waits on
+abbrev pub heard_as : Result ℕ Failure → ℕ → List ℕ → State → Turn State
+heard_as (Ok zero) to input st = hears_of ended st
+heard_as (Ok (suc n)) to input st = hears_of (some (part to (to + suc n) input)) st
+heard_as (Err Interrupted) to input st = wants st
+heard_as (Err (Errno e)) to input st = hears_of failed st
 
 -- what the program then does, by how it stands: it goes on with a text printed, wants a read with none, or is over with one
 abbrev pub Gives : Phase → List ℕ → State → Turn State → Type 0
@@ -219,21 +221,19 @@ Gives Going text st turn = turn ≡ goes text st
 Gives Wants text st turn = (turn ≡ wants st) × (text ≡ [])
 Gives Over text st turn = turn ≡ ends text
 
-pub record Heard (s : Search) (got : Moved) (window literal input : List ℕ) (r : Search) (out : List ℕ) : Type 0 where
+pub record Heard (s : Search) (got : Result ℕ Failure) (window literal input : List ℕ) (r : Search) (out : List ℕ) : Type 0 where
   pub hears : Gives r.phase (printed r out) (seen r window literal input) (heard_as got s.to input (seen s window literal input))
   pub room : HasRoom r.phase r.to input
   pub placed : Placed r input
   pub collects : Collects r out
 
 -- how many bytes a read can have moved
-abbrev pub Fits : Moved → ℕ → List ℕ → Type 0
-Fits (Bytes n) to input = to + n ≤ length input
-Fits Nothing to input = Unit {0}
-Fits Interrupted to input = Unit {0}
-Fits (Failed e) to input = Unit {0}
+abbrev pub Fits : Result ℕ Failure → ℕ → List ℕ → Type 0
+Fits (Ok n) to input = to + n ≤ length input
+Fits (Err e) to input = Unit {0}
 
 -- What a read asks of the buffers: there was room for it, so that only the end of the input moves no byte.
-pub record Hearing (s : Search) (got : Moved) (input out : List ℕ) : Type 0 where
+pub record Hearing (s : Search) (got : Result ℕ Failure) (input out : List ℕ) : Type 0 where
   pub wanted : s.phase ≡ Wants
   pub placed : Placed s input
   pub nothing : NonePending s
@@ -251,7 +251,7 @@ pub record Rests (s : Search) (input : List ℕ) : Type 0 where
 
 -- a read was made, which left the machine's state as it was, and was heard
 pub record ReadIn (s : Search) (window literal input : List ℕ) (r : Search) (window' literal' input' out : List ℕ) : Type 0 where
-  pub got : Moved
+  pub got : Result ℕ Failure
   pub stands : seen s window' literal' input' ≡ seen s window literal input
   pub heard : Heard s got window' literal' input' r out
 

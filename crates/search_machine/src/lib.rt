@@ -6,7 +6,8 @@ use output::Pending;
 use rare_bytes::Pair;
 use searcher::Searcher;
 
-// What is looked for at the front of what was read: the first line, the second, or the lines of the text.
+// What is looked for at the front of what was read: the first line, the second, or the lines of the text. An enum and no function that
+// is held: a search is plain data, of which `Turned` and `Served` speak.
 #[derive(Clone, Copy)]
 pub enum Stage {
     First,
@@ -15,7 +16,7 @@ pub enum Stage {
 }
 
 // What comes next: a turn, a read, or nothing.
-#[derive(Clone, Copy)]
+#[derive(Clone, Copy, PartialEq, Eq)]
 pub enum Phase {
     Going,
     Wants,
@@ -27,7 +28,7 @@ pub struct Search {
     pub stage: Stage,
     pub phase: Phase,
     pub searcher: Searcher,
-    // the literal's length, and which of its bytes are looked for first
+    // the literal's length in the room that is lent for it, since no memory is allocated, and which of its bytes are looked for first
     pub size: usize,
     pub pair: Pair,
     // what was read and not yet taken lies between these places of the input
@@ -37,7 +38,7 @@ pub struct Search {
     pub pending: Pending,
 }
 
-// How a line before the text stands that starts at the front of some bytes.
+// How a line before the text stands that starts at the front of some bytes: no Option, since each case has an answer of its own.
 #[derive(Clone, Copy)]
 pub enum Seen {
     Whole(usize),

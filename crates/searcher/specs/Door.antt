@@ -1,26 +1,26 @@
--- The answers of the session's calls with the session as a searcher: nothing else changes at the door.
-use Rattle.session.specs.declared.AnswerOutcome.{AnswerOutcome}
-use Rattle.session.specs.declared.OfferOutcome.{OfferOutcome}
-use Rattle.session.specs.declared.OpenOutcome.{OpenOutcome}
+-- What the session's calls give with the session as a searcher: nothing else changes at the door.
+use Rattle.std.specs.Prelude.{Result, Ok, Err}
+use Rattle.session.specs.declared.Answered.{Answered}
+use Rattle.session.specs.declared.Offered.{Offered}
+use Rattle.session.specs.declared.Refused.{Refused}
 use Rattle.session.specs.declared.Session.{Session}
-use Rattle.session.specs.declared.TellOutcome.{TellOutcome}
-use Rattle.searcher.specs.declared.Answered.{Answered}
-use Rattle.searcher.specs.declared.Offered.{Offered}
-use Rattle.searcher.specs.declared.Opened.{Opened}
 use Rattle.searcher.specs.declared.Searcher.{Searcher}
-use Rattle.searcher.specs.declared.Told.{Told}
 
 abbrev pub searcher : Session → Searcher
 searcher s = record { session = s }
 
-unfoldable pub door_opened : OpenOutcome → Opened
-door_opened o = record { refusal = o.refusal; searcher = searcher o.session }
+abbrev pub door_refused : Refused Session → Refused Searcher
+door_refused r = record { refusal = r.refusal; next = searcher r.next }
 
-unfoldable pub door_offered : OfferOutcome → Offered
-door_offered o = record { refusal = o.refusal; taken = o.taken; searcher = searcher o.session }
+-- of an opening, and of the end told
+abbrev pub door_opened : Result Session (Refused Session) → Result Searcher (Refused Searcher)
+door_opened (Ok s) = Ok (searcher s)
+door_opened (Err r) = Err (door_refused r)
 
-unfoldable pub door_answered : AnswerOutcome → Answered
-door_answered a = record { refusal = a.refusal; rows = a.rows; searcher = searcher a.session }
+abbrev pub door_offered : Result (Offered Session) (Refused Session) → Result (Offered Searcher) (Refused Searcher)
+door_offered (Ok o) = Ok (record { taken = o.taken; next = searcher o.next })
+door_offered (Err r) = Err (door_refused r)
 
-unfoldable pub door_told : TellOutcome → Told
-door_told t = record { refusal = t.refusal; searcher = searcher t.session }
+abbrev pub door_answered : Result (Answered Session) (Refused Session) → Result (Answered Searcher) (Refused Searcher)
+door_answered (Ok a) = Ok (record { rows = a.rows; next = searcher a.next })
+door_answered (Err r) = Err (door_refused r)

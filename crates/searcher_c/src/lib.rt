@@ -5,9 +5,8 @@
 ghost use Rattle.std.specs.Prelude.{◌*◌, ◌≤◌, length};
 ghost use Rattle.definition.specs.Rows.{row_size};
 
-use definition::Settings;
-use driving::Fed;
-use machine::Next;
+use definition::{Refusal, Settings};
+use machine::{Fed, Next};
 use searcher::Searcher;
 
 // How many rows there were, and a number mixed of all their numbers.
@@ -20,13 +19,12 @@ pub struct Sum {
 #[derive(Clone, Copy)]
 pub struct Searched {
     pub searcher: Searcher,
-    pub refusal: u64,
-    pub rows: u64,
-    pub mixed: u64,
+    pub refusal: Option<Refusal>,
+    pub sum: Sum,
 }
 
-// Pieces have the length asked for, or that of the text where it is 0. Told are the refusal or 0, the number of rows, their
-// mixed number, and bytes, lines, matches and cause of the end record.
+// The row table is numbers, four a row, as C has them. Pieces have the length asked for, or that of the text where it is 0. Told are the refusal or 0, the number of rows, their
+// mixed number, and bytes, lines, matches and cause of the end record, 0 where it is refused: numbers, as callers from C take them.
 #[unsafe(no_mangle)]
 pub extern "C" fn searcher_search(
     before: usize,
@@ -39,29 +37,34 @@ pub extern "C" fn searcher_search(
     table: &mut [u64],
     told: &mut [u64; 7],
 ) {
-    let plain = Settings::plain(b'\n');
     let settings = Settings {
-        before: before,
-        after: after,
-        invert: invert,
-        ..plain
+        before,
+        after,
+        invert,
+        ..Settings::plain(b'\n')
     };
-    let opened = Searcher::open(settings, window.len());
-    let searched = search_text(opened.searcher, text, piece, literal, window, table);
-    let s = searched.searcher;
-    let recorded = s.end_record();
-    let end = recorded.end;
-    told[0] = if opened.refusal == 0 {
-        searched.refusal
-    } else {
-        opened.refusal
+    let searched = match Searcher::open(settings, window.len()) {
+        Ok(searcher) => search_text(searcher, text, piece, literal, window, table),
+        Err(refused) => Searched {
+            searcher: refused.next,
+            refusal: Some(refused.refusal),
+            sum: Sum { rows: 0, mixed: 0 },
+        },
     };
-    told[1] = searched.rows;
-    told[2] = searched.mixed;
-    told[3] = end.bytes;
-    told[4] = end.lines;
-    told[5] = end.matches;
-    told[6] = end.cause;
+    *told = numbers(searched);
+}
+
+fn numbers(searched: Searched) -> [u64; 7] {
+    let refusal = match searched.refusal {
+        Some(refusal) => u64::from(refusal),
+        None => 0,
+    };
+    let [bytes, lines, matches, cause] = match searched.searcher.end_record() {
+        Ok(end) => [end.bytes, end.lines, end.matches, u64::from(end.cause)],
+        Err(_) => [0; 4],
+    };
+    let sum = searched.sum;
+    [refusal, sum.rows, sum.mixed, bytes, lines, matches, cause]
 }
 
 // The loop of the program `search`, over a text in memory. The one call each of line, answer and feed is here or below, so
@@ -76,38 +79,35 @@ fn search_text(
 ) -> Searched {
     let pair = rare_bytes::choose(literal);
     let mut s = searcher;
-    let mut at = 0;
+    let mut rest = text;
     let mut sum = Sum { rows: 0, mixed: 0 };
-    let mut turns = u64::MAX;
-    while 0 < turns {
-        turns -= 1;
+    let mut refusal = None;
+    for _ in 0..u64::MAX {
         let hit = literal::contains_by(s.line(window), literal, pair);
-        let answered = s.answer(window, table, hit);
-        if answered.refusal == 0 {
-            s = answered.searcher;
-            sum = sum_up(sum, table, answered.rows);
-        } else {
-            let fed = feed(s, answered.refusal, window, first(&text[at..], piece));
-            s = fed.searcher;
-            at += fed.taken;
-            let next = fed.next;
-            match next {
-                Next::Goes => {}
-                Next::Wants => return ended(s, 0, sum),
-                Next::Refuses(refusal) => return ended(s, refusal, sum),
-                Next::Ends(_) => return ended(s, 0, sum),
+        match s.answer(window, table, hit) {
+            Ok(answered) => {
+                s = answered.next;
+                sum = sum_up(sum, table, answered.rows);
+            }
+            Err(refused) => {
+                let fed = feed(s, refused.refusal, window, first(rest, piece));
+                s = fed.session;
+                rest = &rest[fed.taken..];
+                match fed.next {
+                    Next::Goes => {}
+                    Next::Wants | Next::Ends(_) => break,
+                    Next::Refuses(k) => {
+                        refusal = Some(k);
+                        break;
+                    }
+                }
             }
         }
     }
-    ended(s, 0, sum)
-}
-
-fn ended(s: Searcher, refusal: u64, sum: Sum) -> Searched {
     Searched {
         searcher: s,
-        refusal: refusal,
-        rows: sum.rows,
-        mixed: sum.mixed,
+        refusal,
+        sum,
     }
 }
 
@@ -116,36 +116,29 @@ fn sum_up(sum: Sum, table: &[u64], rows: usize) -> Sum
     requires { row_size * rows ≤ length table.now }
 {
     let mut mixed = sum.mixed;
-    let end = definition::ROW * rows;
-    let mut i = 0;
-    while i < end {
-        mixed = mix(mixed, table[i]);
-        i += 1;
+    for x in &table[..definition::ROW * rows] {
+        mixed = mix(mixed, *x);
     }
     Sum {
-        rows: std::num::wrapping_add_u64(sum.rows, rows as u64),
-        mixed: mixed,
+        rows: sum.rows.wrapping_add(rows as u64),
+        mixed,
     }
 }
 
 // Three times the number, wrapped, so that nothing mixed in is lost.
 fn mix(mixed: u64, x: u64) -> u64 {
-    let twice = std::num::wrapping_add_u64(mixed, mixed);
-    std::num::wrapping_add_u64(twice, mixed) ^ x
+    mixed.wrapping_mul(3) ^ x
 }
 
 // An answer was refused. Where nothing is left of the text its end is told.
-fn feed(s: Searcher, refusal: u64, window: &mut [u8], piece: &[u8]) -> Fed
+#[tactic(auto, using(machine::proofs::Feeds::fed_taken, machine::proofs::Feeds::end_taken))]
+fn feed(s: Searcher, refusal: Refusal, window: &mut [u8], piece: &[u8]) -> Fed<Searcher>
     ensures { result.taken ≤ length piece.now }
 {
     let fed = driving::feed(s, refusal, window, piece);
-    let searcher = fed.searcher;
-    let next = fed.next;
-    match next {
-        Next::Goes => fed,
-        Next::Wants => driving::tell_end(searcher),
-        Next::Refuses(_) => fed,
-        Next::Ends(_) => fed,
+    match fed.next {
+        Next::Wants => driving::tell_end(fed.session),
+        Next::Goes | Next::Refuses(_) | Next::Ends(_) => fed,
     }
 }
 
@@ -156,8 +149,5 @@ fn first(text: &[u8], piece: usize) -> &[u8]
     if piece == 0 {
         return text;
     }
-    if text.len() < piece {
-        return text;
-    }
-    &text[..piece]
+    &text[..piece.min(text.len())]
 }

@@ -9,6 +9,7 @@ use std::io::{Read, Write};
 use streams::Streams;
 
 // Makes a step and writes what is then pending, until all is told. Turns are a bound for the proof: nothing lasts so long.
+// The parts are lent one by one: each may be longer than what is used of it (`Lent`), which a type of fixed parts would not take.
 pub fn serve<I: Read, O: Write, E: Write>(
     standard: &mut Streams<I, O, E>,
     window: &mut [u8],
@@ -20,21 +21,15 @@ pub fn serve<I: Read, O: Write, E: Write>(
     requires { Lent window.old table.old literal.old input.old out.old }
 {
     let mut s = standing::start();
-    let mut turns = u64::MAX;
-    while 0 < turns {
-        turns -= 1;
+    for _ in 0..u64::MAX {
         let stepped = step(standard, s, window, table, literal, input, out);
-        let pending = stepped.pending;
-        let length = pending.length;
+        let length = stepped.pending.length;
         if !streams::write(&mut standard.output, &mut standard.errors, &out[..length]) {
             return;
         }
         s = standing::written(stepped);
-        let phase = s.phase;
-        match phase {
-            Phase::Going => {}
-            Phase::Wants => {}
-            Phase::Over => return,
+        if s.phase == Phase::Over {
+            return;
         }
     }
 }
@@ -53,12 +48,10 @@ fn step<I: Read, O: Write, E: Write>(
     ensures rests { Rests (written_out result) input.new × Collects result out.new }
     ensures stepped { Stepped s.phase s window.old literal.old input.old result window.new literal.new input.new out.new }
 {
-    let phase = s.phase;
-    match phase {
+    match s.phase {
         Phase::Going => go_on(s, window, table, literal, input, out),
         Phase::Wants => {
-            let held = s.to;
-            let got = streams::read(&mut standard.input, &mut input[held..]);
+            let got = streams::read(&mut standard.input, &mut input[s.to..]);
             hearing::heard(&mut standard.errors, s, got, input, out)
         }
         Phase::Over => s,
@@ -77,8 +70,7 @@ fn go_on(
     requires { Ready s window.old table.old literal.old input.old out.old }
     ensures { Turned (seen s window.old literal.old input.old) result window.new literal.new input.new out.new }
 {
-    let stage = s.stage;
-    match stage {
+    match s.stage {
         Stage::First => heading::first(s, window, literal, input, out),
         Stage::Second => heading::second(s, window, literal, input, out),
         Stage::Text => turning::turns(s, window, table, literal, input, out),

@@ -1,6 +1,7 @@
 -- Why an offer or an answer decides as it does: a case for each way through the tests.
 use Rattle.std.proofs.Common.{◌≡◌, ℕ, ◌*◌, ◌<◌, ◌≤◌, Bool, true, false, cond, not, ◌&&◌, ltb, leb, ◌⊎◌, List, length, refl, inl, inr, ltb-false, ltb-true, le-ltb, lt-ltb, le-leb, leb-false, leb-true}
 use borrow.Author.Tests.{lt-leb}
+use Rattle.definition.specs.declared.Refusal.TheVariants.{SizeTaken, TableShort, Unsound, WindowFull}
 use Rattle.definition.specs.Bounds.{max_input}
 use Rattle.definition.specs.Rows.{row_size}
 use Rattle.driver_core.specs.Answer.{AnswerDecision, AnswerRefused, Give, answering_since}
@@ -15,31 +16,31 @@ and-false false = refl
 
 module _ (s : Session) (w piece : List ℕ) where
   pub data OfferCase : OfferDecision → Type 0 where
-    unsound : sound s (length w) ≡ false → OfferCase (OfferRefused 6)
+    unsound : sound s (length w) ≡ false → OfferCase (OfferRefused Unsound)
     idling : sound s (length w) ≡ true → idle s piece ≡ true → OfferCase Idle
     quits : sound s (length w) ≡ true → idle s piece ≡ false → quit_front s piece ≡ true → OfferCase (taking s w piece)
-    sized : Plain s w piece → max_input ≤ taken_bytes s → OfferCase (OfferRefused 5)
-    full : Plain s w piece → taken_bytes s < max_input → waits s w ≡ false → s.places.window ≤ held_bytes s w → OfferCase (OfferRefused 3)
+    sized : Plain s w piece → max_input ≤ taken_bytes s → OfferCase (OfferRefused SizeTaken)
+    full : Plain s w piece → taken_bytes s < max_input → waits s w ≡ false → s.places.window ≤ held_bytes s w → OfferCase (OfferRefused WindowFull)
     takes : Plain s w piece → taken_bytes s < max_input → (waits s w ≡ true) ⊎ (held_bytes s w < s.places.window) → OfferCase (taking s w piece)
 
   offer_room : (b v : Bool) → waits s w ≡ b → leb s.places.window (held_bytes s w) ≡ v → Plain s w piece → taken_bytes s < max_input
-      → OfferCase (cond (not b && v) (OfferRefused 3) (taking s w piece))
+      → OfferCase (cond (not b && v) (OfferRefused WindowFull) (taking s w piece))
   offer_room true v e k p m = takes p m (inl e)
   offer_room false true e k p m = full p m e (leb-true s.places.window (held_bytes s w) k)
   offer_room false false e k p m = takes p m (inr (leb-false s.places.window (held_bytes s w) k))
 
   offer_size : (b : Bool) → leb max_input (taken_bytes s) ≡ b → Plain s w piece
-      → OfferCase (cond b (OfferRefused 5) (cond (not (waits s w) && leb s.places.window (held_bytes s w)) (OfferRefused 3) (taking s w piece)))
+      → OfferCase (cond b (OfferRefused SizeTaken) (cond (not (waits s w) && leb s.places.window (held_bytes s w)) (OfferRefused WindowFull) (taking s w piece)))
   offer_size true e p = sized p (leb-true max_input (taken_bytes s) e)
   offer_size false e p = offer_room (waits s w) (leb s.places.window (held_bytes s w)) refl refl p (leb-false max_input (taken_bytes s) e)
 
   offer_first : (b i q : Bool) → sound s (length w) ≡ b → idle s piece ≡ i → quit_front s piece ≡ q
       → OfferCase
-      (cond (not b) (OfferRefused 6)
+      (cond (not b) (OfferRefused Unsound)
       (cond i Idle
       (cond q (taking s w piece)
-      (cond (leb max_input (taken_bytes s)) (OfferRefused 5)
-      (cond (not (waits s w) && leb s.places.window (held_bytes s w)) (OfferRefused 3) (taking s w piece))))))
+      (cond (leb max_input (taken_bytes s)) (OfferRefused SizeTaken)
+      (cond (not (waits s w) && leb s.places.window (held_bytes s w)) (OfferRefused WindowFull) (taking s w piece))))))
   offer_first false i q e j k = unsound e
   offer_first true true q e j k = idling e j
   offer_first true false true e j k = quits e j k
@@ -63,18 +64,18 @@ module _ (s : Session) (w piece : List ℕ) where
 
 module _ (s : Session) (w : List ℕ) (table : ℕ) (hit : Bool) where
   pub data AnswerCase : AnswerDecision → Type 0 where
-    unsound : sound s (length w) ≡ false → AnswerCase (AnswerRefused 6)
-    none : sound s (length w) ≡ true → waits s w ≡ false → AnswerCase (AnswerRefused 6)
-    below : sound s (length w) ≡ true → waits s w ≡ true → below_one s w hit ≡ true → AnswerCase (AnswerRefused 6)
+    unsound : sound s (length w) ≡ false → AnswerCase (AnswerRefused Unsound)
+    none : sound s (length w) ≡ true → waits s w ≡ false → AnswerCase (AnswerRefused Unsound)
+    below : sound s (length w) ≡ true → waits s w ≡ true → below_one s w hit ≡ true → AnswerCase (AnswerRefused Unsound)
     few : sound s (length w) ≡ true → waits s w ≡ true → below_one s w hit ≡ false → table < row_size * length (answer_rows s w hit)
-        → AnswerCase (AnswerRefused 4)
+        → AnswerCase (AnswerRefused TableShort)
     gives : sound s (length w) ≡ true → waits s w ≡ true → below_one s w hit ≡ false → row_size * length (answer_rows s w hit) ≤ table
         → AnswerCase Give
 
   answer_first : (b v l f : Bool) → sound s (length w) ≡ b → waits s w ≡ v → below_one s w hit ≡ l
       → ltb table (row_size * length (answer_rows s w hit)) ≡ f
       → AnswerCase
-      (cond (not b) (AnswerRefused 6) (cond (not v) (AnswerRefused 6) (cond l (AnswerRefused 6) (cond f (AnswerRefused 4) Give))))
+      (cond (not b) (AnswerRefused Unsound) (cond (not v) (AnswerRefused Unsound) (cond l (AnswerRefused Unsound) (cond f (AnswerRefused TableShort) Give))))
   answer_first false v l f e i j k = unsound e
   answer_first true false l f e i j k = none e i
   answer_first true true true f e i j k = below e i j

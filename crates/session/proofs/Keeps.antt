@@ -1,6 +1,9 @@
 -- Each call keeps the list of contradictions empty, whatever window, piece and table it is given.
-use Rattle.std.proofs.Common.{◌≡◌, ℕ, ◌+◌, ◌-◌, ◌*◌, ◌<◌, ◌≤◌, Bool, true, false, cond, ◌&&◌, eqb, ltb, leb, List, length, drop, refl, arith, length-take, ltb-true, eq-eqb, eqb-true, leb-true}
+use Rattle.std.proofs.Common.{◌≡◌, ℕ, ◌+◌, ◌-◌, ◌*◌, ◌<◌, ◌≤◌, Bool, true, false, cond, ◌&&◌, eqb, ltb, leb, List, length, drop, refl, arith, length-take, ltb-true, eqb-true, leb-true}
 use mathlib.Core.Bool.{and-eq-true_iff}
+use Rattle.std.specs.Prelude.{Option, Some, None}
+use Rattle.definition.specs.declared.Refusal.{Refusal}
+use Rattle.definition.specs.declared.Refusal.TheVariants.{BadSettings, BadWindow}
 use Rattle.definition.specs.declared.Settings.{Settings}
 use Rattle.definition.specs.Bounds.{allowed, max_input, max_window}
 use Rattle.definition.specs.Rows.{row_size}
@@ -8,7 +11,8 @@ use Rattle.definition.specs.State.{fate_of}
 use Rattle.driver_core.specs.Answer.{AnswerDecision, AnswerRefused, Give, gets_row, state_since}
 use Rattle.driver_core.proofs.Keeps.{agree_fewer, agree_next, agree_start, since_now, waiting_some, waits_why, Waits}
 use Rattle.session.specs.declared.Session.{Session}
-use Rattle.session.specs.Calls.{Idle, OfferDecision, OfferRefused, Take, answer_answer, answer_rows, answer_session, answered, answering, before_quit, fitting, fresh, offer_answer, offered, offering, opened, opening, places_next, stored, taking, told, told_session}
+use Rattle.session.proofs.Refusals.{opening_served}
+use Rattle.session.specs.Calls.{Idle, OfferDecision, OfferRefused, Take, answer_answer, answer_rows, answer_session, answer_result, answered, answering, before_quit, fitting, fresh, offer_answer, offer_result, offered, offering, open_result, opened, opening, places_next, stored, taking, tell_result, telling, told, told_session}
 use Rattle.session.specs.Held.{held_bytes, is_open, kept_bytes, kept_from, line_length, shown, since, unanswered, waits}
 use Rattle.session.specs.Sound.{Agree, agrees, ahead_bytes, since_bytes, sound, taken_bytes}
 use Rattle.session.proofs.Agree.{agree_of, agrees_of}
@@ -87,7 +91,7 @@ agree_offer_of s w piece Idle t a = a
 agree_offer_of s w piece (Take n quit) t a = agree_stored s w piece n quit a t.room
 
 pub agree_offer : (s : Session) (w piece : List ℕ) → Agree s → Agree (offered s w piece).session
-unfolding offered
+unfolding offer_result offered
 agree_offer s w piece a = agree_offer_of s w piece (offering s w piece) (offer_taken s w piece) a
 
 -- # Answering
@@ -149,7 +153,7 @@ agree_answer_of s w table hit (AnswerRefused k) g a = a
 agree_answer_of s w table hit Give g a = agree_given s w hit a g.0
 
 pub agree_answer : (s : Session) (w table : List ℕ) (hit : Bool) → Agree s → Agree (answered s w table hit).session
-unfolding answered
+unfolding answer_result answered
 agree_answer s w table hit a =
     agree_answer_of s w (length table) hit (answering s w (length table) hit) (answer_given s w (length table) hit) a
 
@@ -165,21 +169,22 @@ agree_told_session s a =
     }
 
 pub agree_told : (s : Session) → Agree s → Agree (told s).session
-unfolding told
+unfolding told telling tell_result
 agree_told s a = rw (agrees_of s a) (agree_told_session s a)
 
-pub opening_why : (c : Settings) (n : ℕ) → opening c n ≡ 0 → (allowed c ≡ true) × (0 < n) × (n ≤ max_window)
+pub opening_why : (c : Settings) (n : ℕ) → opening c n ≡ None → (allowed c ≡ true) × (0 < n) × (n ≤ max_window)
 unfolding opening
 opening_why c n = go (allowed c) (ltb 0 n && leb n max_window) refl refl
   where
-    go : (b v : Bool) → allowed c ≡ b → (ltb 0 n && leb n max_window) ≡ v → ◌≡◌ {A = ℕ} (cond b (cond v 0 2) 1) 0 → (allowed c ≡ true) × (0 < n) × (n ≤ max_window)
+    go : (b v : Bool) → allowed c ≡ b → (ltb 0 n && leb n max_window) ≡ v
+        → ◌≡◌ {A = Option Refusal} (cond b (cond v None (Some BadWindow)) (Some BadSettings)) None → (allowed c ≡ true) × (0 < n) × (n ≤ max_window)
     go true true k h e =
         let both = (and-eq-true_iff (ltb 0 n) (leb n max_window)).0 h in
         (k, ltb-true 0 n both.0, leb-true n max_window both.1)
-    go true false k h e = absurd (omega (arith, e))
-    go false v k h e = absurd (omega (arith, e))
+    go true false k h e = absurd cc
+    go false v k h e = absurd cc
 
-pub agree_fresh : (c : Settings) (n : ℕ) → opening c n ≡ 0 → Agree (fresh c n)
+pub agree_fresh : (c : Settings) (n : ℕ) → opening c n ≡ None → Agree (fresh c n)
 agree_fresh c n e =
     let why = opening_why c n e in
     record {
@@ -188,9 +193,8 @@ agree_fresh c n e =
     }
 
 pub served_fresh : (c : Settings) (n : ℕ) → (opened c n).refusal ≡ 0 → (opened c n).session ≡ fresh c n
-unfolding opened
-served_fresh c n e = rw (eq-eqb (opening c n) 0 e)
+unfolding opened open_result
+served_fresh c n e = rw (opening_served c n e)
 
 pub agree_opened : (c : Settings) (n : ℕ) → (opened c n).refusal ≡ 0 → Agree (opened c n).session
-unfolding opened
-agree_opened c n e = rw (eq-eqb (opening c n) 0 e) (agree_fresh c n e)
+agree_opened c n e = rw (served_fresh c n e) (agree_fresh c n (opening_served c n e))

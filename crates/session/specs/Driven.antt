@@ -1,16 +1,13 @@
 -- Examples of the session, by computation, as one table: calls made one after the other, with what each gives.
 -- proofs/Driven.antt proves the claim.
-use Rattle.std.specs.Prelude.{◌≡◌, ℕ, zero, suc, ◌+◌, ◌-◌, ◌*◌, Bool, true, false, cond, ◌&&◌, List, [], ◌∷◌, ◌++◌, map, length, take, drop, replicate, ◌==◌}
-use Rattle.definition.specs.declared.Row.{Row}
+use Rattle.std.specs.Prelude.{◌≡◌, ℕ, zero, suc, ◌+◌, ◌-◌, ◌*◌, Bool, true, false, cond, ◌&&◌, List, [], ◌∷◌, ◌++◌, map, length, take, drop, replicate, ◌==◌, Some, None}
 use Rattle.definition.specs.declared.Binary.TheVariants.{Ignore, Quit, Convert}
-use Rattle.definition.specs.declared.End.{End}
 use Rattle.definition.specs.declared.Going.TheVariants.{On}
-use Rattle.definition.specs.declared.Limit.TheVariants.{Unlimited, Most}
-use Rattle.definition.specs.declared.Place.TheVariants.{Nowhere}
 use Rattle.definition.specs.declared.Settings.{Settings}
 use Rattle.definition.specs.Bounds.{plain}
 use Rattle.definition.specs.Examples.{Example, answers_at, context, settings, r, e, N, all, P}
-use Rattle.definition.specs.Rows.{row_size, rows_in}
+use Rattle.definition.specs.Numbers.{end_numbers}
+use Rattle.definition.specs.Rows.{flat, row_size, rows_in}
 use Rattle.driver_core.specs.Walk.{is_on}
 use Rattle.session.specs.declared.Input.TheVariants.{Open}
 use Rattle.session.specs.declared.Session.{Session}
@@ -46,13 +43,13 @@ pub data Seen : Type 0 where
   -- refusal, the part
   showed : ℕ → List ℕ → Seen
   -- refusal, the rows, the numbers behind them in the table
-  gave : ℕ → List Row → List ℕ → Seen
+  gave : ℕ → List (List ℕ) → List ℕ → Seen
   heard : ℕ → Seen
   -- refusal, the end record
-  ended : ℕ → End → Seen
+  ended : ℕ → List ℕ → Seen
   stood : Session → Seen
   -- the refusal that ended the run or 0, the rows, the end record
-  drove : ℕ → List Row → End → Seen
+  drove : ℕ → List (List ℕ) → List ℕ → Seen
 
 -- a window of so many 7s, and so many numbers of a table as it was
 abbrev pub sevens : ℕ → List ℕ
@@ -62,7 +59,7 @@ abbrev pub nines : ℕ → List ℕ
 nines n = replicate n 9
 
 -- "a refused end record is all zeros"
-abbrev pub zeros : End
+abbrev pub zeros : List ℕ
 zeros = e 0 0 0 0 0 0
 
 -- # The caller of demand 3
@@ -74,7 +71,7 @@ abbrev pub turn : Session → List ℕ → List ℕ → Turn
 turn s w rest = cond (waits s w) answers (cond (is_on s.walk.going && is_open s.places.input) (cond (length rest == 0) tells offers) asks)
 
 -- fuel; the answers; the piece size; session, window, rest of the input, rows so far
-abbrev pub driven : ℕ → (ℕ → Bool) → ℕ → Session → List ℕ → List ℕ → List Row → Seen
+abbrev pub driven : ℕ → (ℕ → Bool) → ℕ → Session → List ℕ → List ℕ → List (List ℕ) → Seen
 driven zero hits size s w rest rows = heard 0
 driven (suc fuel) hits size s w rest rows =
     elim (turn s w rest) [
@@ -82,13 +79,13 @@ driven (suc fuel) hits size s w rest rows =
           let hit = hits (s.walk.lines + 1) in
           let table = nines (row_size * (s.walk.settings.before + 2)) in
           let a = answered s w table hit in
-          driven fuel hits size a.session w rest (rows ++ rows_in a.rows (answered_table s w table hit))
+          driven fuel hits size a.session w rest (rows ++ map flat (rows_in a.rows (answered_table s w table hit)))
       | offers ↦
           let o = offered s w (take size rest) in
           let go = driven fuel hits size o.session (offered_window s w (take size rest)) (drop o.taken rest) rows in
           elim (o.refusal == 0) [ true ↦ go | false ↦ drove o.refusal rows zeros ]
       | tells ↦ driven fuel hits size (told s).session w rest rows
-      | asks ↦ drove (recorded s).refusal rows (recorded s).end
+      | asks ↦ drove (recorded s).refusal rows (end_numbers (recorded s).end)
     ]
 
 -- # The table
@@ -108,9 +105,9 @@ play s w (answer hit n ∷ calls) =
     let table = nines n in
     let a = answered s w table hit in
     let table' = answered_table s w table hit in
-    gave a.refusal (rows_in a.rows table') (drop (row_size * a.rows) table') ∷ play a.session w calls
+    gave a.refusal (map flat (rows_in a.rows table')) (drop (row_size * a.rows) table') ∷ play a.session w calls
 play s w (tell ∷ calls) = heard (told s).refusal ∷ play (told s).session w calls
-play s w (ask ∷ calls) = ended (recorded s).refusal (recorded s).end ∷ play s w calls
+play s w (ask ∷ calls) = ended (recorded s).refusal (end_numbers (recorded s).end) ∷ play s w calls
 play s w (look ∷ calls) = stood s ∷ play s w calls
 play s w (drive size input hits ∷ calls) = driven 100 (answers_at hits) size s w input [] ∷ play s w calls
 
@@ -140,14 +137,14 @@ abbrev pub T3 : List ℕ
 T3 = 97 ∷ 10 ∷ 98 ∷ 10 ∷ 99 ∷ 10 ∷ []
 
 abbrev pub quitting : ℕ → Settings
-quitting b = settings b 0 false false false Unlimited (Quit 0)
+quitting b = settings b 0 false false false None (Quit 0)
 
 abbrev pub converting : Settings
-converting = settings 0 0 false false false Unlimited (Convert 0)
+converting = settings 0 0 false false false None (Convert 0)
 
 -- a limit of 0, which stops at opening
 abbrev pub unasked : Settings
-unasked = settings 0 0 false false false (Most 0) Ignore
+unasked = settings 0 0 false false false (Some 0) Ignore
 
 -- a session by its numbers: its window's length; lines gone through; bytes taken, held unanswered from `next` to `end`
 abbrev pub session : Settings → ℕ → ℕ → ℕ → ℕ → ℕ → Session
@@ -163,7 +160,7 @@ session c window count taken next end =
             given = false;
             going = On;
           };
-      places = record { window = window; floor = next; next = next; end = end; input = Open; replaced = Nowhere };
+      places = record { window = window; floor = next; next = next; end = end; input = Open; replaced = None };
     }
 
 -- one that a caller made up
@@ -200,11 +197,11 @@ Refusals =
     ∷ script (sevens 1)
     (try (context 0 1000) 1
     ∷ try (context 0 1001) 1
-    ∷ try (settings 0 0 false false false (Most 4294967295) Ignore) 1
-    ∷ try (settings 0 0 false false false (Most 4294967296) Ignore) 1
-    ∷ try (settings 0 0 false true false Unlimited Ignore) 1
-    ∷ try (settings 1 0 false true false Unlimited Ignore) 1
-    ∷ try (settings 0 1 false true false Unlimited Ignore) 1
+    ∷ try (settings 0 0 false false false (Some 4294967295) Ignore) 1
+    ∷ try (settings 0 0 false false false (Some 4294967296) Ignore) 1
+    ∷ try (settings 0 0 false true false None Ignore) 1
+    ∷ try (settings 1 0 false true false None Ignore) 1
+    ∷ try (settings 0 1 false true false None Ignore) 1
     ∷ [])
     (heard 0 ∷ heard 1 ∷ heard 0 ∷ heard 1 ∷ heard 0 ∷ heard 1 ∷ heard 1 ∷ [])
     -- no line waits; a window of another length
@@ -270,7 +267,7 @@ QuitBytes =
     (start (quitting 0) ∷ offer (97 ∷ 10 ∷ 98 ∷ 99 ∷ []) ∷ answer false 8 ∷ offer (0 ∷ []) ∷ show ∷ [])
     (heard 0 ∷ took 0 4 (97 ∷ 10 ∷ 98 ∷ 99 ∷ []) ∷ gave 0 [] (nines 8) ∷ took 0 0 (98 ∷ 99 ∷ 98 ∷ 99 ∷ []) ∷ showed 0 (98 ∷ 99 ∷ []) ∷ [])
     ∷ script (sevens 4)
-    (start (settings 0 0 false false false (Most 1) (Quit 0)) ∷ offer T3 ∷ answer true 8 ∷ offer (0 ∷ []) ∷ show ∷ ask ∷ [])
+    (start (settings 0 0 false false false (Some 1) (Quit 0)) ∷ offer T3 ∷ answer true 8 ∷ offer (0 ∷ []) ∷ show ∷ ask ∷ [])
     (heard 0
     ∷ took 0 4 (97 ∷ 10 ∷ 98 ∷ 10 ∷ [])
     ∷ gave 0 (r 1 0 2 1 ∷ []) (nines 4)
@@ -300,7 +297,7 @@ QuitBytes =
     ∷ [])
     -- a replaced byte that is taken and not gone through
     ∷ script (sevens 6)
-    (start (settings 0 0 false false false (Most 1) (Convert 0)) ∷ offer N ∷ answer true 8 ∷ ask ∷ [])
+    (start (settings 0 0 false false false (Some 1) (Convert 0)) ∷ offer N ∷ answer true 8 ∷ ask ∷ [])
     (heard 0 ∷ took 0 6 (97 ∷ 10 ∷ 98 ∷ 10 ∷ 99 ∷ 10 ∷ []) ∷ gave 0 (r 1 0 2 1 ∷ []) (nines 4) ∷ ended 0 (e 2 1 1 2 0 0) ∷ [])
     ∷ []
 

@@ -1,6 +1,5 @@
 -- 01, refusal 6: the list of numbers that contradict each other, and the closed session.
-use Rattle.std.specs.Prelude.{ℕ, ◌+◌, ◌-◌, ◌<◌, ◌≤◌, Bool, ◌&&◌, List, [], ◌∷◌, ◌==◌, nat_le, nat_lt}
-use Rattle.definition.specs.declared.Place.TheVariants.{Nowhere}
+use Rattle.std.specs.Prelude.{ℕ, ◌+◌, ◌-◌, ◌<◌, ◌≤◌, Bool, ◌&&◌, List, [], ◌∷◌, ◌==◌, nat_le, nat_lt, None}
 use Rattle.definition.specs.Bounds.{max_window, plain}
 use Rattle.driver_core.specs.Walk.{WalkAgree, every, walk_agrees, walk_start}
 use Rattle.session.specs.declared.Input.TheVariants.{Open}
@@ -53,7 +52,7 @@ sound s window = agrees s && window == s.places.window
 
 -- nothing held in a window of some length
 abbrev pub places_start : ℕ → Places
-places_start window = record { window = window; floor = 0; next = 0; end = 0; input = Open; replaced = Nowhere }
+places_start window = record { window = window; floor = 0; next = 0; end = 0; input = Open; replaced = None }
 
 -- "a closed session that answers 6 to everything"
 abbrev pub closed : Session

@@ -1,11 +1,11 @@
-// A session's state and the outcomes of its calls, as plain data. What the calls do is in specs/, as functions of these.
+// A session's state and what its calls hand back, as plain data. What the calls do is in specs/, as functions of these.
 #![tactic(auto)]
 
-use definition::{End, Place};
+use definition::Refusal;
 use driver_core::Walk;
 
 // How the input stands.
-#[derive(Clone, Copy)]
+#[derive(Clone, Copy, PartialEq, Eq)]
 pub enum Input {
     Open,
     Ended,
@@ -25,7 +25,7 @@ pub struct Places {
     pub end: usize,
     pub input: Input,
     // the first replaced byte among those taken
-    pub replaced: Place,
+    pub replaced: Option<u64>,
 }
 
 #[derive(Clone, Copy)]
@@ -35,43 +35,25 @@ pub struct Session {
     pub places: Places,
 }
 
-// Whether a line waits; the last is refusal 6.
+// A call that is not served: why, and what it hands back. `S` is a session, or what wraps one.
 #[derive(Clone, Copy)]
-pub enum Waiting {
-    LineWaits,
-    NoneWaits,
-    WaitingRefused,
+pub struct Refused<S> {
+    pub refusal: Refusal,
+    pub next: S,
 }
 
+// An offer that is served.
 #[derive(Clone, Copy)]
-pub struct OpenOutcome {
-    pub refusal: u64,
-    pub session: Session,
-}
-
-#[derive(Clone, Copy)]
-pub struct OfferOutcome {
-    pub refusal: u64,
+pub struct Offered<S> {
+    // how many bytes of the piece were taken
     pub taken: usize,
-    pub session: Session,
+    pub next: S,
 }
 
+// An answer that is served.
 #[derive(Clone, Copy)]
-pub struct AnswerOutcome {
-    pub refusal: u64,
+pub struct Answered<S> {
     // how many rows were written
     pub rows: usize,
-    pub session: Session,
-}
-
-#[derive(Clone, Copy)]
-pub struct TellOutcome {
-    pub refusal: u64,
-    pub session: Session,
-}
-
-#[derive(Clone, Copy)]
-pub struct Recorded {
-    pub refusal: u64,
-    pub end: End,
+    pub next: S,
 }

@@ -39,8 +39,8 @@ pub fn opened(s: Search, searcher: Searcher, from: usize) -> Search
     Search {
         stage: Stage::Second,
         phase: Phase::Going,
-        searcher: searcher,
-        from: from,
+        searcher,
+        from,
         ..s
     }
 }
@@ -52,9 +52,9 @@ pub fn begun(s: Search, size: usize, pair: Pair, from: usize) -> Search
     Search {
         stage: Stage::Text,
         phase: Phase::Going,
-        size: size,
-        pair: pair,
-        from: from,
+        size,
+        pair,
+        from,
         ..s
     }
 }
@@ -65,9 +65,9 @@ pub fn going(s: Search, searcher: Searcher, at: usize, pending: Pending) -> Sear
 {
     Search {
         phase: Phase::Going,
-        searcher: searcher,
+        searcher,
         from: at,
-        pending: pending,
+        pending,
         ..s
     }
 }
@@ -118,7 +118,7 @@ pub fn over(s: Search, pending: Pending) -> Search
 {
     Search {
         phase: Phase::Over,
-        pending: pending,
+        pending,
         ..s
     }
 }

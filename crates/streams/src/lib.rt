@@ -1,12 +1,12 @@
-// The programs' standard input and output. What a call of read or write did is a function of the count that it gave.
+// The programs' standard input and output. What a call of read or write did is std's count, or a failure told apart from a signal.
 #![tactic(auto)]
 
-ghost use Rattle.std.specs.Prelude.{◌≡◌, ◌≤◌, ◌<◌, IfOk, length};
+ghost use Rattle.std.specs.Prelude.{◌≡◌, ◌≤◌, length};
 ghost use Rattle.output.specs.Output.{collected, collected_in};
-ghost use Rattle.streams.specs.Moves.{MovedWithin, Takes, WritesFront, errno_of, failed_read, left_of, moved_in, moved_of, unmoved_by};
+ghost use Rattle.streams.specs.Moves.{MovedWithin, Takes, WritesFront, errno_of, failed_read, left_of, moved_in, unmoved_by};
 
 use output::Pending;
-use std::io::{Cursor, Error, ErrorKind, Read, Result, Write};
+use std::io::{Cursor, Error, ErrorKind, Read, Write};
 
 // The system's numbers of two failures: a signal came first, and a failure that has no number.
 const EINTR: i32 = 4;
@@ -21,41 +21,22 @@ pub struct Streams<I, O, E> {
     pub errors: E,
 }
 
-// What a call of read or write did: it moved so many bytes, or none; or a signal came first, or it failed, with this errno.
-#[derive(Clone, Copy)]
-pub enum Moved {
-    Bytes(usize),
-    Nothing,
+// Why a call of read or write moved nothing: a signal came first, or it failed, with this errno.
+#[derive(Clone, Copy, PartialEq, Eq)]
+pub enum Failure {
     Interrupted,
-    Failed(i32),
+    Errno(i32),
 }
 
-// What is left of a text after a write: nothing, its last so many bytes, or what cannot be written.
-#[derive(Clone, Copy)]
-pub enum Left {
-    Done,
-    More(usize),
-    Stuck,
-}
+impl From<Error> for Failure {
+    ghost from_gives = { λ e failure. failure ≡ unmoved_by (errno_of e) };
 
-// Reads once. Nothing moves at the end of the input, or into an empty buffer.
-pub fn read<I: Read>(from: &mut I, buffer: &mut [u8]) -> Moved
-    ensures within { MovedWithin result buffer.new }
-    ensures bytes { Takes (I.remaining from.old) (I.remaining from.new) result buffer.new }
-{
-    let got = from.read(buffer);
-    moved_in(got, buffer.len())
-}
-
-// What a call did, by what std gives of it: a count and no errno, or an errno and the count that the system has for it.
-fn moved_in(got: Result<usize>, most: usize) -> Moved
-    requires within { IfOk got (λ n. n ≤ most) }
-    requires small { most < 9223372036854775808 }
-    ensures { result ≡ moved_in got most }
-{
-    match got {
-        Ok(n) => moved_by(n as isize, 0, most),
-        Err(e) => moved_by(-1, errno_of(e), most),
+    fn from(e: Error) -> Failure {
+        let error = errno_of(e);
+        if error == EINTR {
+            return Failure::Interrupted;
+        }
+        Failure::Errno(error)
     }
 }
 
@@ -72,77 +53,54 @@ fn errno_of(e: Error) -> i32
     }
 }
 
-// What a call did that was lent so many bytes, by the count that it gave and the errno after it.
-fn moved_by(count: isize, error: i32, most: usize) -> Moved
-    ensures { result ≡ moved_of count error most }
+// Reads once. Nothing moves at the end of the input, or into an empty buffer.
+pub fn read<I: Read>(from: &mut I, buffer: &mut [u8]) -> Result<usize, Failure>
+    ensures within { MovedWithin result buffer.new }
+    ensures bytes { Takes (I.remaining from.old) (I.remaining from.new) result buffer.new }
 {
-    if count < 0 {
-        return unmoved(error);
-    }
-    if count == 0 {
-        return Moved::Nothing;
-    }
-    Moved::Bytes(numbers::least(count as usize, most))
+    let got = from.read(buffer);
+    moved_in(got, buffer.len())
 }
 
-fn unmoved(error: i32) -> Moved
-    ensures { result ≡ unmoved_by error }
+// What a call did that was lent so many bytes, by what std gives of it. It moves no more than it was lent.
+fn moved_in(got: std::io::Result<usize>, most: usize) -> Result<usize, Failure>
+    ensures { result ≡ moved_in got most }
 {
-    if error == EINTR {
-        return Moved::Interrupted;
-    }
-    Moved::Failed(error)
+    Ok(got?.min(most))
 }
 
-// Writes a text, going on after a signal and where only a part was written; whether all of it is written.
-// Turns are a bound for the proof: nothing lasts so long.
+// Writes a text, going on after a signal and where only a part was written; whether all of it is written. A bool, since why
+// it fails is told here: a caller has only to stop. std's `write_all` does not say what it wrote before it failed, as `WritesFront`
+// does. Turns are a bound for the proof: nothing lasts so long.
 pub fn write<O: Write, E: Write>(to: &mut O, errors: &mut E, text: &[u8]) -> bool
     ensures { WritesFront (O.contents to.old) (O.contents to.new) text.now result }
 {
-    let mut from = 0;
-    let mut turns = u64::MAX;
-    while 0 < turns {
-        if text.len() <= from {
-            return true;
+    let mut left = text.len();
+    for _ in 0..u64::MAX {
+        if left == 0 {
+            break;
         }
-        turns -= 1;
-        let size = text.len() - from;
-        let wrote = moved_in(to.write(&text[from..]), size);
-        match left_of(wrote, size) {
-            Left::Done => return true,
-            Left::More(n) => from = text.len() - n,
-            Left::Stuck => {
-                tell_reason(errors, b"failed write, errno ", reason_of(wrote));
+        let wrote = moved_in(to.write(&text[text.len() - left..]), left);
+        match left_of(wrote, left) {
+            Ok(n) => left = n,
+            Err(reason) => {
+                tell_reason(errors, "failed write, errno ", reason);
                 return false;
             }
         }
     }
-    false
+    left == 0
 }
 
-// The errno of a call; 0 where it did not fail.
-fn reason_of(moved: Moved) -> i32 {
-    match moved {
-        Moved::Failed(reason) => reason,
-        Moved::Bytes(_) => 0,
-        Moved::Nothing => 0,
-        Moved::Interrupted => 0,
-    }
-}
-
-// What is left of a text of so many bytes, by what a write of it did.
-fn left_of(wrote: Moved, size: usize) -> Left
+// How many bytes are left of so many after a write of them; or the errno where they cannot be written, 0 where none was moved.
+fn left_of(wrote: Result<usize, Failure>, size: usize) -> Result<usize, i32>
     ensures { result ≡ left_of wrote size }
 {
     match wrote {
-        Moved::Bytes(n) => if n < size {
-            Left::More(size - n)
-        } else {
-            Left::Done
-        },
-        Moved::Nothing => Left::Stuck,
-        Moved::Interrupted => Left::More(size),
-        Moved::Failed(_) => Left::Stuck,
+        Ok(0) => Err(0),
+        Ok(n) => Ok(size.saturating_sub(n)),
+        Err(Failure::Interrupted) => Ok(size),
+        Err(Failure::Errno(reason)) => Err(reason),
     }
 }
 
@@ -156,22 +114,13 @@ pub fn tell_failed_read<E: Write>(
     ensures value { result ≡ collected pending failed_read out.old }
     ensures out_after { out.new ≡ collected_in pending failed_read out.old }
 {
-    tell_reason(errors, b"failed read, errno ", reason);
+    tell_reason(errors, "failed read, errno ", reason);
     output::put(out, pending, b"failed read\n")
 }
 
 // A line among the errors: what failed, errno's number, and the system's text for it. Where that fails nothing can be told.
-fn tell_reason<E: Write>(errors: &mut E, what: &[u8], reason: i32)
-    requires { length what.now ≤ 20 }
-{
-    let mut line = [0u8; 40];
-    let mut digits = [0u8; 20];
-    let count = io::decimal(error_number(reason), &mut digits);
-    let named = output::stored(&mut line, output::nothing_pending(), what);
-    let numbered = output::stored(&mut line, named, &digits[..count]);
-    let length = numbered.length;
-    let _ = errors.write_all(&line[..length]);
-    let _ = errors.write_all(b": ");
+fn tell_reason<E: Write>(errors: &mut E, what: &str, reason: i32) {
+    let _ = write!(errors, "{what}{}: ", reason.max(0));
     tell_text(errors, reason);
     let _ = errors.write_all(b"\n");
 }
@@ -189,12 +138,7 @@ fn tell_text<E: Write>(errors: &mut E, reason: i32) {
 fn text_end(text: &[u8]) -> usize
     ensures { result ≤ length text.now }
 {
-    match text.iter().position(|x| *x == b'(') {
-        Some(at) => if 0 < at { at - 1 } else { 0 },
-        None => 0,
-    }
-}
-
-fn error_number(reason: i32) -> u64 {
-    if 0 < reason { reason as u64 } else { 0 }
+    text.iter()
+        .position(|x| *x == b'(')
+        .map_or(0, |at| at.saturating_sub(1))
 }

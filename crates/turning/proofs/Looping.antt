@@ -1,34 +1,36 @@
 -- Laws of the loop over turns in the text: how it stands, and what each way through it leaves.
-use Rattle.std.proofs.Common.{◌≡◌, ℕ, ◌+◌, ◌-◌, ◌<◌, ◌≤◌, Bool, true, false, ◌&&◌, ltb, leb, ◌⊎◌, List, [], length, take, sym, refl, ap, ◌∙◌, inl, inr, ⊎_elim, append-nil, arith, ltb-false, leb-false}
-use mathlib.Core.Bool.{false≢true}
+use Rattle.std.specs.Prelude.{Result, Ok, Err}
+use Rattle.std.proofs.Common.{◌≡◌, ℕ, ◌+◌, ◌-◌, ◌<◌, ◌≤◌, false, ◌⊎◌, List, [], length, take, sym, refl, ap, ◌∙◌, inl, inr, ⊎_elim, append-nil, arith}
 use Rattle.definition.specs.declared.End.{End}
+use Rattle.definition.specs.declared.Refusal.{Refusal}
+use Rattle.definition.specs.Numbers.{refusal_number}
 use Rattle.definition.specs.Text.{part}
-use Rattle.driving.specs.declared.Fed.{Fed}
 use Rattle.driving.specs.Door.{door_fed}
 use Rattle.line_buffer.specs.Buffer.{rolled}
+use Rattle.machine.specs.declared.Fed.{Fed}
 use Rattle.machine.specs.declared.Next.TheVariants.{Goes, Wants, Refuses, Ends}
 use Rattle.machine.proofs.Feeds.{fed_taken}
-use Rattle.machine.specs.Machine.{Leads}
+use Rattle.machine.specs.Machine.{Leads, ends}
 use Rattle.machine.specs.Program.{fed, fed_window}
-use Rattle.searcher.specs.declared.Answered.{Answered}
 use Rattle.searcher.specs.declared.Searcher.{Searcher}
+use Rattle.session.specs.declared.Answered.{Answered}
+use Rattle.session.specs.declared.Refused.{Refused}
 use Rattle.session.proofs.Parts.{part_drop, part_length}
 use Rattle.output.specs.declared.Pending.{Pending}
 use Rattle.output.specs.Output.{Tells}
 use Rattle.search_machine.specs.declared.Search.{Search}
-use Rattle.search_machine.specs.Head.{longest}
-use Rattle.search_machine.specs.Search.{State, search, state_at}
-use Rattle.search_machine.specs.Standing.{Ready, Turned, going_with, over_with, seen, turn_most, wanting_with}
+use Rattle.search_machine.specs.Search.{State, search, state_at, turn_of}
+use Rattle.search_machine.specs.Standing.{Placed, Ready, Turned, going_with, over_with, seen, turn_most, wanting_with}
 use Rattle.printing.specs.Texts.{end_text, refused_text, rows_text}
 use Rattle.turning.proofs.Answers.{Asked, fed_wanting, turn_ends, turn_gives, turn_goes, turn_refuses, turn_wants}
 use Rattle.search_machine.proofs.Places.{part_rolled, same_state, tells_within}
 use Rattle.machine.proofs.Leads.{closes_ends, leads_goes, leads_none}
 
 -- How the loop stands: some turns were made, and what they print is pending.
-pub record Loop (s : Search) (start : State) (window₀ table₀ literal input₀ out₀ window table input out : List ℕ) (searcher : Searcher) (at : ℕ) (pending : Pending) (turns : ℕ) : Type 0 where
+pub record Loop (s : Search) (start : State) (window₀ table₀ literal input₀ out₀ window table input out : List ℕ) (searcher : Searcher) (at : ℕ) (pending : Pending) (made : ℕ) : Type 0 where
   pub count : ℕ
   pub leads : Leads search count start (take pending.length out) (state_at s.stage (take s.size literal) searcher.session window (part at s.to input))
-  pub counted : count + turns ≡ 18446744073709551615
+  pub counted : made ≤ count
   -- nothing is pending before the first
   pub first : (pending.length ≡ 0) ⊎ (0 < count)
   pub at_to : at ≤ s.to
@@ -39,9 +41,9 @@ pub record Loop (s : Search) (start : State) (window₀ table₀ literal input�
   pub out_size : length out ≡ length out₀
   pub input_is : input ≡ input₀
 
-pub loop_start : (s : Search) (window table literal input out : List ℕ) → Ready s window table literal input out
-    → Loop s (seen s window literal input) window table literal input out window table input out s.searcher s.from s.pending 18446744073709551615
-loop_start s window table literal input out r =
+pub loop_start : {s : Search} {window table literal input out : List ℕ} → Ready s window table literal input out
+    → Loop s (seen s window literal input) window table literal input out window table input out s.searcher s.from s.pending 0
+loop_start {s} {window} {table} {literal} {input} {out} r =
     record {
       count = 0;
       leads = rw r.nothing.none (leads_none search (seen s window literal input));
@@ -56,38 +58,25 @@ loop_start s window table literal input out r =
       input_is = refl;
     }
 
-module _ {s : Search} {start : State} {window₀ table₀ literal input₀ out₀ window table input out : List ℕ} {searcher : Searcher} {at : ℕ} {pending : Pending} {turns : ℕ} (loop : Loop s start window₀ table₀ literal input₀ out₀ window table input out searcher at pending turns) where
-  -- the loop is left for now
-  pub loop_going : s.size ≤ longest → s.to ≤ length input₀ → (0 < pending.length) ⊎ (0 < loop.count)
-      → Turned start (going_with s searcher at pending) window literal input out
-  loop_going size to h =
+module _ {s : Search} {start : State} {window₀ table₀ literal input₀ out₀ window table input out : List ℕ} {searcher : Searcher} {at : ℕ} {pending : Pending} {made : ℕ} (loop : Loop s start window₀ table₀ literal input₀ out₀ window table input out searcher at pending made) (placed : Placed s input₀) where
+  -- the loop is left for now: the output is nearly full, or turns are used up
+  pub loop_stops : (0 < pending.length) ⊎ (0 < made) → Turned start (going_with s searcher at pending) window literal input out
+  loop_stops h =
       record {
         count = loop.count;
-        does = (⊎_elim (λ k. ⊎_elim (λ z. absurd (omega arith)) (λ m. m) loop.first) (λ m. m) h, loop.leads);
+        does = (⊎_elim (λ k. ⊎_elim (λ z. absurd (omega arith)) (λ m. m) loop.first) (λ m. omega (arith, loop.counted)) h, loop.leads);
         room = tt;
-        placed = record { literal_in = size; from_to = loop.at_to; to_in = omega (arith, ap length loop.input_is) };
+        placed = record { literal_in = placed.literal_in; from_to = loop.at_to; to_in = omega (arith, placed.to_in, ap length loop.input_is) };
         collects = record { within = loop.within; kept = loop.kept };
       }
 
-  -- so it is where turns or room are used up
-  pub loop_stops : s.size ≤ longest → s.to ≤ length input₀ → turn_most ≤ length out₀
-      → (ltb 0 turns && leb turn_most (length out - pending.length)) ≡ false
-      → Turned start (going_with s searcher at pending) window literal input out
-  loop_stops size to room e = loop_going size to (go (ltb 0 turns) refl (leb turn_most (length out - pending.length)) refl e)
-    where
-      go : (a : Bool) → ltb 0 turns ≡ a → (b : Bool) → leb turn_most (length out - pending.length) ≡ b → (a && b) ≡ false
-          → (0 < pending.length) ⊎ (0 < loop.count)
-      go true h true k e = absurd (false≢true (sym e))
-      go true h false k e = inl (omega (arith, leb-false turn_most (length out - pending.length) k, loop.out_size))
-      go false h b k e = inr (omega (arith, ltb-false 0 turns h, loop.counted))
-
-  module _ {line : List ℕ} {hit : Bool} {r : Answered} {after : List ℕ} (a : Asked s.stage (take s.size literal) searcher.session window table line hit r after) (left : 0 < turns) where
-    pub loop_gives : r.refusal ≡ 0 → length after ≡ length table → (q : Pending) (told : List ℕ) → Tells pending out (rows_text r.rows after) q told
-        → Loop s start window₀ table₀ literal input₀ out₀ window after input told r.searcher at q (turns - 1)
-    loop_gives h same q told t =
+  module _ {r : Result (Answered Searcher) (Refused Searcher)} {after : List ℕ} (a : Asked s.stage (take s.size literal) searcher.session window table r after) where
+    pub loop_gives : {o : Answered Searcher} → r ≡ Ok o → length after ≡ length table → {q : Pending} {told : List ℕ} → Tells pending out (rows_text o.rows after) q told
+        → Loop s start window₀ table₀ literal input₀ out₀ window after input told o.next at q (made + 1)
+    loop_gives {o} h same t =
         record {
           count = loop.count + 1;
-          leads = rw t.text_is (leads_goes search loop.count start (take pending.length out) _ (rows_text r.rows after) _ loop.leads (turn_gives a (part at s.to input) h));
+          leads = rw t.text_is (leads_goes search loop.count start (take pending.length out) _ (rows_text o.rows after) _ loop.leads (turn_gives a (part at s.to input) h));
           counted = omega (arith, loop.counted);
           first = inr (omega arith);
           at_to = loop.at_to;
@@ -100,7 +89,7 @@ module _ {s : Search} {start : State} {window₀ table₀ literal input₀ out�
         }
 
     -- where no line waits
-    module _ (h : r.refusal ≡ 0 → ⊥) (to : s.to ≤ length input₀) {f : Fed} {moved : List ℕ} (e : (f ≡ door_fed (fed searcher.session r.refusal window (part at s.to input))) × (moved ≡ fed_window searcher.session r.refusal window (part at s.to input))) where
+    module _ {k : Refused Searcher} (h : r ≡ Err k) {f : Fed Searcher} {moved : List ℕ} (e : f ≡ door_fed (fed searcher.session k.refusal window (part at s.to input))) (m : moved ≡ fed_window searcher.session k.refusal window (part at s.to input)) where
       -- no more is taken than is left
       pub loop_taken : at + f.taken ≤ s.to
       loop_taken =
@@ -108,17 +97,17 @@ module _ {s : Search} {start : State} {window₀ table₀ literal input₀ out�
           omega (
             arith,
             loop.at_to,
-            fed_taken searcher.session r.refusal window piece,
-            part_length at s.to input loop.at_to (omega (arith, ap length loop.input_is)),
-            ap (λ x. x.taken) e.0,
+            placed.to_in,
+            fed_taken searcher.session k.refusal window piece,
+            part_length at s.to input loop.at_to (omega (arith, placed.to_in, ap length loop.input_is)),
+            ap (λ x. x.taken) e,
           )
 
       pub loop_goes : f.next ≡ Goes → length moved ≡ length window → length after ≡ length table
-          → Loop s start window₀ table₀ literal input₀ out₀ moved after input out f.searcher (at + f.taken) pending (turns - 1)
+          → Loop s start window₀ table₀ literal input₀ out₀ moved after input out f.session (at + f.taken) pending (made + 1)
       loop_goes n same-window same-table =
-          let piece = part at s.to input in
           let printed = take pending.length out in
-          let turn = turn_goes a piece h f e.0 moved e.1 n in
+          let turn = turn_goes a (part at s.to input) h e m n in
           record {
             count = loop.count + 1;
             leads = rw (sym (append-nil printed), sym (part_drop at s.to f.taken input)) (leads_goes search loop.count start printed _ [] _ loop.leads turn);
@@ -133,45 +122,43 @@ module _ {s : Search} {start : State} {window₀ table₀ literal input₀ out�
             input_is = loop.input_is;
           }
 
-      pub loop_refuses : s.size ≤ longest → s.from ≤ s.to → (k : ℕ) → f.next ≡ Refuses k → (q : Pending) (told : List ℕ)
-          → Tells pending out (refused_text k) q told
+      -- all is told
+      loop_over : (text : List ℕ) → turn_of (state_at s.stage (take s.size literal) searcher.session window (part at s.to input)) ≡ ends text
+          → {q : Pending} {told : List ℕ} → Tells pending out text q told
           → Turned start (over_with s q) moved literal input told
-      loop_refuses size from k n q told t =
+      loop_over text turn t =
           record {
             count = loop.count + 1;
-            does = rw t.text_is (closes_ends search loop.count start (take pending.length out) _ (refused_text k) loop.leads (turn_refuses a (part at s.to input) h f e.0 k n));
+            does = rw t.text_is (closes_ends search loop.count start (take pending.length out) _ text loop.leads turn);
             room = tt;
-            placed = record { literal_in = size; from_to = from; to_in = omega (arith, ap length loop.input_is) };
+            placed = record { literal_in = placed.literal_in; from_to = placed.from_to; to_in = omega (arith, placed.to_in, ap length loop.input_is) };
             collects = record { within = tells_within loop.within t; kept = t.lost_is ∙ loop.kept };
           }
 
-      pub loop_ends : s.size ≤ longest → s.from ≤ s.to → (end : End) → f.next ≡ Ends end → (q : Pending) (told : List ℕ)
-          → Tells pending out (end_text end) q told
+      pub loop_refuses : {n : Refusal} → f.next ≡ Refuses n → {q : Pending} {told : List ℕ} → Tells pending out (refused_text (refusal_number n)) q told
           → Turned start (over_with s q) moved literal input told
-      loop_ends size from end n q told t =
-          record {
-            count = loop.count + 1;
-            does = rw t.text_is (closes_ends search loop.count start (take pending.length out) _ (end_text end) loop.leads (turn_ends a (part at s.to input) h f e.0 end n));
-            room = tt;
-            placed = record { literal_in = size; from_to = from; to_in = omega (arith, ap length loop.input_is) };
-            collects = record { within = tells_within loop.within t; kept = t.lost_is ∙ loop.kept };
-          }
+      loop_refuses n t = loop_over _ (turn_refuses a (part at s.to input) h e n) t
 
-      pub loop_wants : s.size ≤ longest → 0 < length input₀ → f.next ≡ Wants → (rest : List ℕ) → rest ≡ rolled (at + f.taken) s.to input
+      pub loop_ends : {end : End} → f.next ≡ Ends end → {q : Pending} {told : List ℕ} → Tells pending out (end_text end) q told
+          → Turned start (over_with s q) moved literal input told
+      loop_ends n t = loop_over _ (turn_ends a (part at s.to input) h e n) t
+
+      pub loop_wants : 0 < length input₀ → f.next ≡ Wants → {rest : List ℕ} → rest ≡ rolled (at + f.taken) s.to input
           → length rest ≡ length input
-          → Turned start (wanting_with (going_with s f.searcher (at + f.taken) pending)) moved literal rest out
-      loop_wants size some n rest d same_rest =
+          → Turned start (wanting_with (going_with s f.session (at + f.taken) pending)) moved literal rest out
+      loop_wants some n {rest} d same_rest =
           let piece = part at s.to input in
-          let wanting = fed_wanting searcher.session r.refusal window piece (sym (ap (λ x. x.next) e.0) ∙ n) in
-          let none : f.taken ≡ 0 = ap (λ x. x.taken) e.0 ∙ ap (λ x. x.taken) wanting.0 in
+          let wanting = fed_wanting searcher.session k.refusal window piece (sym (ap (λ x. x.next) e) ∙ n) in
+          let none : f.taken ≡ 0 = ap (λ x. x.taken) e ∙ ap (λ x. x.taken) wanting.0 in
           let here : at + f.taken ≡ at = omega arith in
           let size_is = ap length loop.input_is in
+          let to : s.to ≤ length input₀ = placed.to_in in
           let rest-is : part 0 (s.to - (at + f.taken)) rest ≡ piece = ap (λ xs. part 0 (s.to - (at + f.taken)) xs) d ∙ part_rolled (at + f.taken) s.to input loop_taken (omega arith) ∙ ap (λ from. part from s.to input) here in
-          let same = same_state s.stage (take s.size literal) (ap (λ x. x.searcher.session) e.0 ∙ ap (λ x. x.session) wanting.0) (e.1 ∙ wanting.1) rest-is in
+          let same = same_state s.stage (take s.size literal) (ap (λ x. x.session.session) e ∙ ap (λ x. x.session) wanting.0) (m ∙ wanting.1) rest-is in
           record {
             count = loop.count;
-            does = rw same (loop.leads, turn_wants a piece h f e.0 n);
+            does = rw same (loop.leads, turn_wants a piece h e n);
             room = omega (arith, part_length at s.to input loop.at_to (omega arith), wanting.2);
-            placed = record { literal_in = size; from_to = omega arith; to_in = omega arith };
+            placed = record { literal_in = placed.literal_in; from_to = omega arith; to_in = omega arith };
             collects = record { within = loop.within; kept = loop.kept };
           }

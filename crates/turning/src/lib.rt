@@ -12,7 +12,7 @@ use search_machine::Search;
 const TURN: usize = printing::LONGEST_ROW * (definition::MAX_CONTEXT + 2);
 
 // Turns, until a read is wanted, all is told, or the output might have no room for another. The one call each of line, answer
-// and feed is here, so that they are compiled into the loop. Turns are counted for the proof: nothing lasts so long.
+// and feed is here, so that they are compiled into the loop. Turns are a bound for the proof: nothing lasts so long.
 pub fn turns(
     s: Search,
     window: &mut [u8],
@@ -29,27 +29,32 @@ pub fn turns(
     let mut searcher = s.searcher;
     let mut at = s.from;
     let mut pending = s.pending;
-    let mut turns = u64::MAX;
-    while (0 < turns) & (TURN <= out.len() - pending.length) {
-        turns -= 1;
+    for _ in 0..u64::MAX {
+        if out.len() - pending.length < TURN {
+            break;
+        }
         let hit = literal::contains_by(searcher.line(window), &literal[..size], s.pair);
-        let answered = searcher.answer(window, table, hit);
-        if answered.refusal == 0 {
-            searcher = answered.searcher;
-            pending = printing::rows(out, pending, table, answered.rows);
-        } else {
-            let fed = driving::feed(searcher, answered.refusal, window, &input[at..to]);
-            searcher = fed.searcher;
-            at += fed.taken;
-            let next = fed.next;
-            match next {
-                Next::Goes => {}
-                Next::Wants => {
-                    let left = standing::going(s, searcher, at, pending);
-                    return standing::wanting(left, input);
+        match searcher.answer(window, table, hit) {
+            Ok(answered) => {
+                searcher = answered.next;
+                pending = printing::rows(out, pending, table, answered.rows);
+            }
+            Err(refused) => {
+                let fed = driving::feed(searcher, refused.refusal, window, &input[at..to]);
+                searcher = fed.session;
+                at += fed.taken;
+                match fed.next {
+                    Next::Goes => {}
+                    Next::Wants => {
+                        let left = standing::going(s, searcher, at, pending);
+                        return standing::wanting(left, input);
+                    }
+                    Next::Refuses(k) => return standing::over(
+                        s,
+                        printing::refusal(out, pending, k),
+                    ),
+                    Next::Ends(end) => return standing::over(s, printing::end(out, pending, end)),
                 }
-                Next::Refuses(k) => return standing::over(s, printing::refusal(out, pending, k)),
-                Next::Ends(end) => return standing::over(s, printing::end(out, pending, end)),
             }
         }
     }

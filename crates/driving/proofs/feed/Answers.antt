@@ -1,16 +1,25 @@
--- The four ways through the code are the four cases of `fed`, in its order.
-use mathlib.Core.Path.{◌∙◌}
-use Rattle.driving.proofs.Laws.{fed_ends, fed_offers, fed_refused, fed_wants}
+-- A refusal other than 6 is told; else the ways are those of the end record.
+use Rattle.std.proofs.Common.{sym, ◌∙◌}
+use Rattle.machine.specs.Program.{fed, fed_window}
+use Rattle.driving.proofs.Laws.{not_six, six}
 use Rattle.driving.proofs.feed.Goals as goal
 
-pub returns-then-refusal-ne6 : goal.returns-then-refusal-ne6
-returns-then-refusal-ne6 c = let law = fed_refused c.args.s.session c.args.refusal c.args.window.now c.args.piece.now c.if-refusal-ne6.true in record { value = c.unchanged.ensures ∙ law.0; window_after = law.1 }
+pub returns-then-ne : goal.returns-then-ne
+unfolding fed fed_window
+returns-then-ne c =
+    let no = not_six c.args.refusal c.if-ne.ensures in
+    record { value = rw no c.unchanged.ensures; window_after = rw no }
 
-pub returns-then-recorded-eq0 : goal.returns-then-recorded-eq0
-returns-then-recorded-eq0 c = let law = fed_ends c.args.s.session c.args.refusal c.args.window.now c.args.piece.now c.if-refusal-ne6.false (rw c.end_record-recorded.ensures at c.if-recorded-eq0.true) in record { value = rw (c.unchanged-then-recorded-eq0.ensures, c.end_record-recorded.ensures) law.0; window_after = law.1 }
+pub returns-in-Ok : goal.returns-in-Ok
+unfolding fed fed_window
+returns-in-Ok c =
+    let is = six c.args.refusal c.if-ne.ensures in
+    let served = sym c.end_record.ensures ∙ c.in-Ok.is in
+    record { value = rw (is, served) c.unchanged-in-Ok.ensures; window_after = rw (is, served) }
 
-pub returns-then-piece-eq0 : goal.returns-then-piece-eq0
-returns-then-piece-eq0 c = let law = fed_wants c.args.s.session c.args.refusal c.args.window.now c.args.piece.now c.if-refusal-ne6.false (rw c.end_record-recorded.ensures at c.if-recorded-eq0.false) c.if-piece-eq0.true in record { value = c.unchanged-then-piece-eq0.ensures ∙ law.0; window_after = law.1 }
-
-pub returns : goal.returns
-returns c = let law = fed_offers c.args.s.session c.args.refusal c.args.window.now c.args.piece.now c.if-refusal-ne6.false (rw c.end_record-recorded.ensures at c.if-recorded-eq0.false) c.if-piece-eq0.false in record { value = c.offer.ensures.value ∙ law.0; window_after = c.offer.ensures.window_after ∙ law.1 }
+pub returns-in-Err : goal.returns-in-Err
+unfolding fed fed_window
+returns-in-Err c =
+    let is = six c.args.refusal c.if-ne.ensures in
+    let refused = sym c.end_record.ensures ∙ c.in-Err.is in
+    record { value = rw (is, refused) c.feed_on.ensures.value; window_after = rw (is, refused) c.feed_on.ensures.window_after }

@@ -1,10 +1,15 @@
--- The searcher comes back as it is where telling the end is refused, else with the end told.
-use mathlib.Core.Path.{◌∙◌}
+-- Refused, or with the end told.
+use Rattle.std.proofs.Common.{sym, ◌∙◌}
+use Rattle.session.specs.Calls.{tell_result}
+use Rattle.machine.specs.Program.{fed_end}
 use Rattle.driving.proofs.Laws.{end_refused, end_served}
 use Rattle.driving.proofs.tell_end.Goals as goal
 
-pub returns-then-told-ne0 : goal.returns-then-told-ne0
-returns-then-told-ne0 c = c.unchanged.ensures ∙ end_refused c.args.s.session c.tell_end-told.result c.tell_end-told.ensures c.if-told-ne0.true
+pub returns-in-Ok : goal.returns-in-Ok
+unfolding fed_end
+returns-in-Ok c = end_served c.args.s.session (tell_result c.args.s.session) c.in-Ok.told (sym c.in-Ok.is ∙ c.tell_end.ensures)
 
-pub returns : goal.returns
-returns c = end_served c.args.s.session c.tell_end-told.result c.tell_end-told.ensures c.if-told-ne0.false
+pub returns-in-Err : goal.returns-in-Err
+unfolding fed_end
+returns-in-Err c =
+    c.unchanged.ensures ∙ end_refused c.args.s.session (tell_result c.args.s.session) c.in-Err.not_told (sym c.in-Err.is ∙ c.tell_end.ensures)

@@ -1,29 +1,24 @@
 -- Each thing that a read can give is what the machine hears.
+use Rattle.std.specs.Prelude.{◌≡◌, Ok, Err}
+use mathlib.Core.Path.{◌∙◌, ap}
 use native.Mathlib.Omega.{arith}
+use Rattle.streams.specs.declared.Failure.TheVariants.{Errno}
 use Rattle.streams.specs.Moves.{failed_read}
-use Rattle.hearing.proofs.Hearings.{bytes_heard, end_heard, failure_heard, fits_heard, signal_heard}
+use Rattle.hearing.proofs.Hearings.{heard_failed, heard_more}
 use Rattle.printing.proofs.Laws.{put_tells}
 use Rattle.hearing.proofs.heard.Goals as goal
 
-pub more-requires : goal.more-requires
-more-requires g c = omega (arith, c.well_formed, fits_heard c.args.s c.args.got c.args.input.now c.args.input.now c.args.input.now c.args.out.now c.requires c.in-Bytes.n c.in-Bytes.is)
+pub returns-in-Ok-eq0 : goal.returns-in-Ok-eq0
+returns-in-Ok-eq0 g c =
+    let end : c.args.got ≡ Ok 0 = cc in
+    λ window literal. rw end (c.ended.ensures window literal c.args.input.now (rw end at c.requires))
 
-pub returns-in-Bytes : goal.returns-in-Bytes
-returns-in-Bytes g c =
-    λ window literal.
-    rw c.more.ensures (bytes_heard c.args.s c.args.got window literal c.args.input.now c.args.out.now c.requires c.in-Bytes.n c.in-Bytes.is)
+pub returns-in-Ok : goal.returns-in-Ok
+returns-in-Ok g c =
+    λ window literal. rw (c.more.ensures, c.in-Ok.is) (heard_more window literal c.in-Ok.n (rw c.in-Ok.is at c.in-Ok.n-test).1 (rw c.in-Ok.is at c.requires))
 
-pub returns-in-Nothing : goal.returns-in-Nothing
-returns-in-Nothing g c =
-    λ window literal.
-    end_heard c.args.s c.args.got window literal c.args.input.now c.args.out.now c.requires _ _ c.in-Nothing.is (c.ended.ensures window literal c.args.input.now)
-
-pub returns-in-Interrupted : goal.returns-in-Interrupted
-returns-in-Interrupted g c =
-    λ window literal.
-    signal_heard c.args.s c.args.got window literal c.args.input.now c.args.out.now c.requires c.in-Interrupted.is
-
-pub returns-in-Failed : goal.returns-in-Failed
-returns-in-Failed g c =
-    λ window literal.
-    rw c.over.ensures (failure_heard c.args.s c.args.got window literal c.args.input.now c.args.out.now c.requires c.in-Failed.reason c.in-Failed.is _ _ (put_tells c.args.s.pending failed_read c.args.out.now _ _ (c.tell_failed_read.ensures.value, c.tell_failed_read.ensures.out_after) (omega (arith, c.requires.nothing, c.requires.out_room))))
+pub returns-in-Err-Errno : goal.returns-in-Err-Errno
+returns-in-Err-Errno g c =
+    let failure : c.args.got ≡ Err (Errno c.in-Err-Errno.reason) = c.in-Err-Errno.is ∙ ap (λ e. Err e) (rw c.in-Err-Errno.is at c.in-Err-Errno.field-0-is) in
+    let told = put_tells c.args.s.pending failed_read c.args.out.now _ _ (c.tell_failed_read.ensures.value, c.tell_failed_read.ensures.out_after) (omega (arith, c.requires.nothing, c.requires.out_room)) in
+    λ window literal. rw (c.over.ensures, failure) (heard_failed window literal (rw failure at c.requires) told)

@@ -1,12 +1,12 @@
--- The lines counted and those from the place on are all the lines.
-use Prim.Native.Nat.{◌+◌, ◌-◌, ◌≤◌}
+-- The lines counted and those of the rest are all the lines.
+use Prim.Native.Nat.{◌+◌, ◌≤◌}
 use mathlib.Core.Path.{◌≡◌}
-use lib.ListN.{length, drop}
+use lib.ListN.{length}
 use Rattle.definition.specs.Text.{lines}
 use Rattle.lines.proofs.count.Given as goal
 
-abbrev pub invariant-loop-i : goal.invariant-loop-i
-invariant-loop-i l = (l.i ≤ length l.s) × (l.n ≤ l.i) × (length (lines l.terminator l.s) ≡ l.n + length (lines l.terminator (drop l.i l.s)))
+abbrev pub invariant-loop-rest : goal.invariant-loop-rest
+invariant-loop-rest l = (l.n + length l.rest ≤ length l.s) × (length (lines l.terminator l.s) ≡ l.n + length (lines l.terminator l.rest))
 
-abbrev pub decreases-loop-i : goal.decreases-loop-i
-decreases-loop-i l = length l.s - l.i
+abbrev pub decreases-loop-rest : goal.decreases-loop-rest
+decreases-loop-rest l = length l.rest

@@ -5,7 +5,4 @@ use Rattle.definition.specs.Text.{first_place}
 use Rattle.lines.proofs.last_line.Given as goal
 
 abbrev pub invariant-loop-i : goal.invariant-loop-i
-invariant-loop-i l = (l.i ≤ length l.s) × (length l.s ≤ l.i - 1 + first_place l.terminator (drop (l.i - 1) l.s) + 1)
-
-abbrev pub decreases-loop-i : goal.decreases-loop-i
-decreases-loop-i l = l.i
+invariant-loop-i l = length l.s ≤ l.i - 1 + first_place l.terminator (drop (l.i - 1) l.s) + 1

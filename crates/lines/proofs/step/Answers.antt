@@ -1,18 +1,15 @@
 -- The first line ends after the first terminator, or at the end.
-use mathlib.Core.Path.{sym, ◌∙◌}
 use native.Mathlib.Omega.{arith}
-use Rattle.lines.proofs.Laws.{found_at, found_nothing}
+use Rattle.std.proofs.lemmas.Grind.{common_steps}
+use Rattle.definition.proofs.Terminator.{first_le}
+use Rattle.lines.proofs.Laws.{found_or}
 use Rattle.lines.proofs.step.Goals as goal
 
 pub overflow_add-result : goal.overflow_add-result
-overflow_add-result c =
-    let at = found_at c.args.terminator c.in-At.i c.args.s.now (sym c.in-At.is ∙ c.find.ensures) in
-    omega (arith, at, c.well_formed)
+overflow_add-result c = grind (arith, common_steps, found_or)
 
-pub returns-in-At : goal.returns-in-At
-returns-in-At c =
-    let at = found_at c.args.terminator c.in-At.i c.args.s.now (sym c.in-At.is ∙ c.find.ensures) in
-    omega (arith, at)
+pub returns-in-Some : goal.returns-in-Some
+returns-in-Some c = grind (arith, common_steps, found_or)
 
-pub returns-in-Nothing : goal.returns-in-Nothing
-returns-in-Nothing c = omega (arith, found_nothing c.args.terminator c.args.s.now (sym c.in-Nothing.is ∙ c.find.ensures))
+pub returns-in-None : goal.returns-in-None
+returns-in-None c = grind (arith, common_steps, found_or, first_le)

@@ -1,25 +1,15 @@
 -- A place that the two bytes do not rule out is compared; the others are passed.
 use mathlib.Core.Path.{sym, ◌∙◌}
-use native.Mathlib.Omega.{arith}
-use Rattle.literal_places.proofs.Sweeps.{miss, no_start, swept_start, swept_one, swept_found, swept_none}
+use Rattle.literal_places.proofs.Sweeps.{miss, no_start, swept_found, nowhere_more}
 use Rattle.literal_places.proofs.Stands.{stands_at}
 use Rattle.literal_places.proofs.each.Goals as goal
-
-pub loop-i-init : goal.loop-i-init
-loop-i-init c = swept_start (omega arith)
+use Rattle.literal_places.proofs.each.Goals.{else-any_hit-via-then-any_hit+else-starts_at, else-any_hit-via-else-any_hit}
 
 pub returns-then-starts_at : goal.returns-then-starts_at
-returns-then-starts_at c = swept_found (stands_at c.args.literal.now c.args.line.now c.loop-i.i (sym c.starts_at.ensures ∙ c.if-starts_at.true))
+returns-then-starts_at c = swept_found (stands_at c.args.literal.now c.args.line.now c.loop-at.at (sym c.starts_at.ensures ∙ c.if-starts_at.true))
 
-pub loop-i-preserved-else-starts_at : goal.loop-i-preserved-else-starts_at
-loop-i-preserved-else-starts_at c =
-    let none = no_start c.args.literal.now c.args.line.now c.loop-i.i (sym c.starts_at.ensures ∙ c.if-starts_at.false) in
-    swept_one c.loop-i.invariant (omega arith) none
-
-pub loop-i-preserved : goal.loop-i-preserved
-loop-i-preserved c =
-    let none = miss c.loop-i.i 1 c.requires.0 c.any_hit.ensures c.if-any_hit.false in
-    swept_one c.loop-i.invariant (omega arith) none
-
-pub returns : goal.returns
-returns c = swept_none c.loop-i.invariant c.loop-i-test.false
+pub loop-at-preserved : goal.loop-at-preserved
+loop-at-preserved c = nowhere_more _ _ _ c.loop-at.at _ c.loop-at.invariant (elim c.else-any_hit.branch [
+  | else-any_hit-via-then-any_hit+else-starts_at w ↦ no_start _ _ _ (sym w.starts_at.ensures ∙ w.if-starts_at.false)
+  | else-any_hit-via-else-any_hit w ↦ miss _ 1 c.requires.0 c.any_hit.ensures w.if-any_hit.false
+])

@@ -1,24 +1,19 @@
--- What is left to compare decides as the whole does.
+-- Every byte of the literal is compared.
 use Prim.Native.Nat.{◌+◌}
-use mathlib.Core.Path.{◌≡◌, sym, ◌∙◌}
+use mathlib.Core.Path.{refl, ◌∙◌}
 use native.Mathlib.Omega.{arith}
-use borrow.Author.Tests.{eq-eqb, ne_eqb}
-use lib.ListN.{length}
-use Rattle.literal_places.proofs.Stands.{starts_step, starts_end}
+use lib.Dec.{eqb}
+use lib.ListN.{length, get_or}
+use Rattle.std.proofs.Common.{rules}
+use Rattle.std.proofs.lemmas.Iterator.{YieldsList-from_range}
+use Rattle.std.proofs.lemmas.Iterator.Search.{all_from_yields_List}
+use Rattle.literal_places.proofs.Stands.{starts_all}
 use Rattle.literal_places.proofs.starts_at.Goals as goal
-
-pub loop-k-init : goal.loop-k-init
-loop-k-init c =
-    let e : c.args.at + 0 ≡ c.args.at = omega arith in
-    (omega arith, rw e)
-
-pub returns-then-line-at : goal.returns-then-line-at
-returns-then-line-at c = sym (c.loop-k.invariant.1 ∙ starts_step c.args.literal.now c.args.line.now c.args.at c.loop-k.k (omega arith) (omega arith) ∙ rw (ne_eqb _ _ c.if-line-at.true))
-
-pub loop-k-preserved : goal.loop-k-preserved
-loop-k-preserved c = (omega arith, c.loop-k.invariant.1 ∙ starts_step c.args.literal.now c.args.line.now c.args.at c.loop-k.k (omega arith) (omega arith) ∙ rw (eq-eqb _ _ c.if-line-at.false))
 
 pub returns : goal.returns
 returns c =
-    let e : c.loop-k.k ≡ length c.args.literal.now = omega arith in
-    sym (c.loop-k.invariant.1 ∙ rw e (starts_end c.args.literal.now _))
+    let line = c.args.line.now in
+    let literal = c.args.literal.now in
+    all_from_yields_List (λ j. eqb (get_or line (c.args.at + j) 0) (get_or literal j 0)) _ _ _ c.all.ensures.ran
+    (YieldsList-from_range 0 (length literal) (length literal) refl (omega arith)) (λ x b q k. search rules)
+    ∙ starts_all literal line c.args.at c.requires

@@ -1,5 +1,6 @@
 -- 6 first, then an idle piece, then the rest.
 use Rattle.std.proofs.Common.{◌≡◌, true, length, sym, ◌∙◌, arith}
+use Rattle.definition.specs.declared.Refusal.TheVariants.{Unsound}
 use Rattle.driver_core.proofs.Laws.{before_allowed}
 use Rattle.session.specs.Calls.{Idle, OfferRefused, idle}
 use Rattle.session.specs.Sound.{sound}
@@ -10,7 +11,7 @@ use Rattle.offering.proofs.Laws.{planned_is}
 use Rattle.offering.proofs.decide.Goals as goal
 
 pub returns-then-not-is_sound : goal.returns-then-not-is_sound
-returns-then-not-is_sound c = planned_is c.args.s c.args.window.now c.args.piece.now (OfferRefused 6) (unsound (sym c.is_sound.ensures ∙ c.if-not-is_sound.true))
+returns-then-not-is_sound c = planned_is c.args.s c.args.window.now c.args.piece.now (OfferRefused Unsound) (unsound (sym c.is_sound.ensures ∙ c.if-not-is_sound.true))
 
 pub returns-then-is_idle : goal.returns-then-is_idle
 unfolding idle idle_at

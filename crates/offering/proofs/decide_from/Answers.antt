@@ -24,13 +24,13 @@ overflow_sub-left c = omega (arith, c.taken_bytes-left.ensures, c.requires.sound
 pub returns-then-reach : goal.returns-then-reach
 returns-then-reach c =
     let reach-as : c.reaches-reach.result ≡ reached c.args.s.walk.settings.binary c.args.piece.now (min (c.args.s.places.window - (c.args.s.places.end - c.args.from)) (max_input - taken_bytes c.args.s)) =
-    rw (c.least.ensures, c.taken_bytes-left.ensures) at c.reaches-reach.ensures in
+    rw (c.min.ensures, c.taken_bytes-left.ensures) at c.reaches-reach.ensures in
     path_front c.args.s c.args.window.now c.args.piece.now c.args.from c.requires.sounded c.requires.piece_value (rw (reach-as) at c.if-reach.true)
 
 pub returns-then-left-eq0 : goal.returns-then-left-eq0
 returns-then-left-eq0 c =
     let reach-as : c.reaches-reach.result ≡ reached c.args.s.walk.settings.binary c.args.piece.now (min (c.args.s.places.window - (c.args.s.places.end - c.args.from)) (max_input - taken_bytes c.args.s)) =
-    rw (c.least.ensures, c.taken_bytes-left.ensures) at c.reaches-reach.ensures in
+    rw (c.min.ensures, c.taken_bytes-left.ensures) at c.reaches-reach.ensures in
     let left_as : c.taken_bytes-left.result ≡ taken_bytes c.args.s =
     c.taken_bytes-left.ensures in
     path_size c.args.s c.args.window.now c.args.piece.now c.args.from c.requires.sounded c.requires.piece_value (rw (reach-as) at c.if-reach.false)
@@ -42,7 +42,7 @@ is_stuck-requires c = (c.requires.sounded.agree.places.next_end, omega (arith, c
 pub returns-then-is_stuck : goal.returns-then-is_stuck
 returns-then-is_stuck c =
     let reach-as : c.reaches-reach.result ≡ reached c.args.s.walk.settings.binary c.args.piece.now (min (c.args.s.places.window - (c.args.s.places.end - c.args.from)) (max_input - taken_bytes c.args.s)) =
-    rw (c.least.ensures, c.taken_bytes-left.ensures) at c.reaches-reach.ensures in
+    rw (c.min.ensures, c.taken_bytes-left.ensures) at c.reaches-reach.ensures in
     let left_as : c.taken_bytes-left.result ≡ taken_bytes c.args.s =
     c.taken_bytes-left.ensures in
     path_stuck c.args.s c.args.window.now c.args.piece.now c.args.from c.requires.sounded c.requires.piece_value (rw (reach-as) at c.if-reach.false)
@@ -51,7 +51,7 @@ returns-then-is_stuck c =
 pub returns : goal.returns
 returns c =
     let reach-as : c.reaches-reach.result ≡ reached c.args.s.walk.settings.binary c.args.piece.now (min (c.args.s.places.window - (c.args.s.places.end - c.args.from)) (max_input - taken_bytes c.args.s)) =
-    rw (c.least.ensures, c.taken_bytes-left.ensures) at c.reaches-reach.ensures in
+    rw (c.min.ensures, c.taken_bytes-left.ensures) at c.reaches-reach.ensures in
     let left_as : c.taken_bytes-left.result ≡ taken_bytes c.args.s =
     c.taken_bytes-left.ensures in
     rw (reach-as)

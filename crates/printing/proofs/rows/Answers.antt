@@ -1,19 +1,15 @@
--- The invariant: the rows before this one are printed, and take no more than the most that so many can.
-use mathlib.Core.Path.{◌≡◌}
+-- The rows before each are printed; those of the table's front are its first chunks.
 use native.Mathlib.Omega.{arith}
-use Rattle.printing.proofs.Laws.{told_next, told_none}
+use Rattle.printing.proofs.Laws.{rows_front, tells_same, told_next, told_none}
 use Rattle.printing.proofs.rows.Goals as goal
 
-pub loop-i-init : goal.loop-i-init
-loop-i-init c = (omega arith, told_none c.args.pending c.args.out.now c.args.table.now)
+pub loop-numbers-init : goal.loop-numbers-init
+loop-numbers-init c = told_none c.args.pending c.args.out.now
 
-pub loop-i-preserved : goal.loop-i-preserved
-loop-i-preserved c = (omega arith, told_next c.loop-i.invariant.1 c.row-told.ensures (λ k. omega (arith, c.type_inv.table k)))
-
-pub shape_of-out : goal.shape_of-out
-shape_of-out c = c.loop-i.invariant.1.tells.size_is
+pub loop-numbers-preserved : goal.loop-numbers-preserved
+loop-numbers-preserved c = told_next _ c.loop-numbers.numbers-index c.loop-numbers-test.true c.loop-numbers.invariant c.row-told.ensures.told c.row-told.ensures.most
 
 pub returns : goal.returns
 returns c =
-    let all : c.loop-i.i ≡ c.args.count = omega arith in
-    rw all at c.loop-i.invariant.1.tells
+    let all = rows_front c.args.count c.loop-numbers.numbers-index c.args.table.now c.as_chunks.result.0.now c.as_chunks.ensures.front (omega arith) c.loop-numbers-test.false in
+    tells_same all c.loop-numbers.invariant.tells

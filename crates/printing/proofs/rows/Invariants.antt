@@ -1,10 +1,7 @@
 -- The invariant: the rows before this one are printed, and take no more than the most that so many can.
-use Prim.Native.Nat.{◌-◌, ◌≤◌}
+use lib.ListN.{take}
 use Rattle.printing.proofs.Laws.{RowsTold}
 use Rattle.printing.proofs.rows.Given as goal
 
-abbrev pub invariant-loop-i : goal.invariant-loop-i
-invariant-loop-i l = (l.i ≤ l.count) × RowsTold l.initial.told l.initial.out l.table l.i l.told l.out
-
-abbrev pub decreases-loop-i : goal.decreases-loop-i
-decreases-loop-i l = l.count - l.i
+abbrev pub invariant-loop-numbers : goal.invariant-loop-numbers
+invariant-loop-numbers l = RowsTold l.initial.told l.initial.out (take l.numbers-index l.numbers-items) l.told l.out

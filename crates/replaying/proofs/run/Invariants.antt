@@ -1,15 +1,7 @@
--- The lent parts keep their lengths; the turns left fall.
+-- The input keeps its length.
 use mathlib.Core.Path.{◌≡◌}
 use lib.ListN.{length}
 use Rattle.replaying.proofs.run.Given as goal
 
-abbrev pub invariant-loop-turns : goal.invariant-loop-turns
-invariant-loop-turns g l =
-    (length l.room ≡ length l.initial.room)
-    × (length l.table ≡ length l.initial.table)
-    × (length l.bytes ≡ length l.initial.bytes)
-    × (length l.input ≡ length l.initial.input)
-    × (length l.out ≡ length l.initial.out)
-
-abbrev pub decreases-loop-turns : goal.decreases-loop-turns
-decreases-loop-turns g l = l.turns
+abbrev pub invariant-loop : goal.invariant-loop
+invariant-loop g l = length l.input ≡ length l.initial.input

@@ -1,11 +1,13 @@
 -- The rows still to come, put into the table as it stands, are the rows wanted.
-use Prim.Native.Nat.{◌-◌}
 use lib.ListN.{length}
+use Rattle.definition.specs.Text.{put_at}
+use Rattle.rows.specs.Table.{before_numbers}
 use Rattle.rows.proofs.Laws.{Left}
 use Rattle.rows.proofs.put_before.Given as goal
 
-abbrev pub invariant-loop-i : goal.invariant-loop-i
-invariant-loop-i l = Left l.terminator l.at l.offset l.number l.part l.initial.table l.table l.i l.k
+abbrev pub invariant-loop-rest : goal.invariant-loop-rest
+invariant-loop-rest l =
+    Left l.terminator (put_at l.at (before_numbers l.terminator l.offset l.number l.part) l.initial.table) l.table l.rest l.place l.row
 
-abbrev pub decreases-loop-i : goal.decreases-loop-i
-decreases-loop-i l = length l.part - l.i
+abbrev pub decreases-loop-rest : goal.decreases-loop-rest
+decreases-loop-rest l = length l.rest

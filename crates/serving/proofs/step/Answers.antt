@@ -5,8 +5,7 @@ use mathlib.Core.List.{◌++◌}
 use native.Mathlib.Omega.{arith}
 use lib.ListN.{length, drop, length-drop, length-take}
 use Rattle.streams.proofs.Laws.{tail_back}
-use Rattle.search_machine.specs.declared.Phase.TheVariants.{Going, Wants, Over}
-use Rattle.serving.proofs.Running.{collects_none, read_in, rests_hearing, rests_written, stepped}
+use Rattle.serving.proofs.Running.{collects_none, read_in, rests_hearing, rests_written}
 use Rattle.serving.proofs.step.Goals as goal
 
 pub heard-requires : goal.heard-requires
@@ -16,12 +15,13 @@ heard-requires g c =
     rests_hearing c.read-got.new.buffer c.requires.0 c.in-Wants.is same room c.read-got.ensures.within (omega (arith, c.requires.1.out_room))
 
 pub returns-in-Going : goal.returns-in-Going
-returns-in-Going g c = record { rests = (rests_written c.go_on.ensures.placed c.go_on.ensures.room, c.go_on.ensures.collects); stepped = stepped Going c.args.s c.args.window.now c.args.literal.now c.args.input.now _ _ _ _ _ c.in-Going.is c.go_on.ensures }
+returns-in-Going g c = record { rests = (rests_written c.go_on.ensures.placed c.go_on.ensures.room, c.go_on.ensures.collects); stepped = rw c.in-Going.is c.go_on.ensures }
 
 pub returns-in-Wants : goal.returns-in-Wants
 returns-in-Wants g c =
     let heard = c.heard.ensures c.args.window.now c.args.literal.now in
-    let behind = c.read-got.new.buffer ++ drop (length c.args.input.now - c.args.s.to) (drop c.args.s.to c.args.input.now) in record { rests = (rests_written heard.placed heard.room, heard.collects); stepped = stepped Wants c.args.s c.args.window.now c.args.literal.now c.args.input.now _ _ _ _ _ c.in-Wants.is (read_in behind c.requires.0 refl heard) }
+    let behind = c.read-got.new.buffer ++ drop (length c.args.input.now - c.args.s.to) (drop c.args.s.to c.args.input.now) in
+    record { rests = (rests_written heard.placed heard.room, heard.collects); stepped = read_in behind c.in-Wants.is c.requires.0 refl heard }
 
 pub returns-in-Over : goal.returns-in-Over
-returns-in-Over g c = record { rests = (rests_written c.requires.0.placed c.requires.0.room, collects_none c.args.out.now c.requires.0); stepped = stepped Over c.args.s c.args.window.now c.args.literal.now c.args.input.now c.args.s c.args.window.now c.args.literal.now c.args.input.now c.args.out.now c.in-Over.is refl }
+returns-in-Over g c = record { rests = (rests_written c.requires.0.placed c.requires.0.room, collects_none c.args.out.now c.requires.0); stepped = rw c.in-Over.is }

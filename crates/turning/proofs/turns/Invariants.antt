@@ -3,10 +3,6 @@ use Rattle.search_machine.specs.Standing.{seen}
 use Rattle.turning.proofs.Looping.{Loop}
 use Rattle.turning.proofs.turns.Given as goal
 
-abbrev pub invariant-loop-turns : goal.invariant-loop-turns
-invariant-loop-turns l =
-    Loop l.s (seen l.s l.initial.window l.literal l.initial.input) l.initial.window l.initial.table l.literal l.initial.input l.initial.out l.window l.table l.input l.out l.searcher l.at l.pending l.turns
-
-abbrev pub decreases-loop-turns : goal.decreases-loop-turns
-decreases-loop-turns l =
-    l.turns
+abbrev pub invariant-loop : goal.invariant-loop
+invariant-loop l =
+    Loop l.s (seen l.s l.initial.window l.literal l.initial.input) l.initial.window l.initial.table l.literal l.initial.input l.initial.out l.window l.table l.input l.out l.searcher l.at l.pending l.counter

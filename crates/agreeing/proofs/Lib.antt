@@ -1,2 +1,0 @@
--- What is proved of agreement.
-pub mod Laws

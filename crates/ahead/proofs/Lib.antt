@@ -1,2 +1,0 @@
--- What is proved of the line ahead.
-pub mod Laws

@@ -1,2 +1,0 @@
--- What is proved of asking.
-pub mod Laws

@@ -1,2 +1,0 @@
--- What is proved of opening.
-pub mod Laws

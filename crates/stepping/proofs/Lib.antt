@@ -1,2 +1,0 @@
--- What is proved of a step.
-pub mod Laws
