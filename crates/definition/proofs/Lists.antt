@@ -7,12 +7,9 @@ use native.Mathlib.Decide.{dec_le}
 use native.Mathlib.Omega.{arith}
 use lib.ListN.{length, take, drop, length-append, length-drop, length-take, take-append-drop}
 use lib.Seq.{drop-append-add, drop-append-le, drop-drop, drop-length, take_at}
-use Rattle.std.specs.Prelude.{Some}
-use Rattle.definition.specs.declared.Kind.{Kind}
-use Rattle.definition.specs.declared.Kind.TheVariants.{Match, Before, After, Other, Break}
 use Rattle.definition.specs.declared.Row.{Row}
 use Rattle.definition.specs.Definition.{last_of}
-use Rattle.definition.specs.Rows.{flat, kind_number, kind_of, rows_in}
+use Rattle.definition.specs.Rows.{flat, rows_in}
 use Rattle.definition.specs.Text.{put_at}
 
 module _ {ℓ} {A : Type ℓ} where
@@ -91,16 +88,7 @@ put_at_append at xs ys old h =
 
 -- # Rows read back from the table
 
--- each kind is that of its number
-kind_of_number : (k : Kind) → kind_of (kind_number k) ≡ Some k
-unfolding kind_of
-kind_of_number Match = refl
-kind_of_number Before = refl
-kind_of_number After = refl
-kind_of_number Other = refl
-kind_of_number Break = refl
-
-pub rows_in_put : (rs : List Row) (table : List ℕ) → rows_in (length rs) (flatten (map flat rs) ++ table) ≡ rs
-unfolding rows_in flatten
+pub rows_in_put : (rs : List Row) (table : List ℕ) → rows_in (length rs) (flatten (map flat rs) ++ table) ≡ map flat rs
+unfolding flatten
 rows_in_put [] table = refl
-rows_in_put (r ∷ rs) table = rw (kind_of_number r.kind) (ap (λ xs. r ∷ xs) (rows_in_put rs table))
+rows_in_put (r ∷ rs) table = ap (λ xs. flat r ∷ xs) (rows_in_put rs table)

@@ -7,7 +7,7 @@ use Rattle.definition.specs.declared.Settings.{Settings}
 abbrev pub max_context : ℕ
 max_context = 1000
 
--- "Option ℕ: none, or 0 to 4,294,967,295."
+-- "Limit: none, or 0 to 4,294,967,295."
 abbrev pub max_limit : ℕ
 max_limit = 4294967295
 

@@ -1,5 +1,6 @@
 -- 01, "Rows are four numbers": rows, their kinds, and the places of the lines that they speak of.
-use Rattle.std.specs.Prelude.{ℕ, zero, suc, ◌+◌, cond, List, [], ◌∷◌, eqb, Option, Some, None}
+use Rattle.std.specs.Prelude.{ℕ, ◌+◌, List, [], ◌∷◌}
+use Rattle.std.specs.Simd.{first_chunks}
 use Rattle.std.proofs.Math.ListN as ListN
 use Rattle.definition.specs.declared.Kind.{Kind}
 use Rattle.definition.specs.declared.Kind.TheVariants.{Match, Before, After, Other, Break}
@@ -13,16 +14,6 @@ kind_number After = 3
 kind_number Other = 4
 kind_number Break = 5
 
--- the kind of a number, where it has one
-unfoldable pub kind_of : ℕ → Option Kind
-kind_of n =
-    cond (eqb n 1) (Some Match)
-    (cond (eqb n 2) (Some Before)
-    (cond (eqb n 3) (Some After)
-    (cond (eqb n 4) (Some Other)
-    (cond (eqb n 5) (Some Break)
-    None))))
-
 -- "A break is 5, 0, 0, 0."
 abbrev pub break : Row
 break = record { kind = Break; offset = 0; length = 0; number = 0 }
@@ -35,16 +26,9 @@ flat r = kind_number r.kind ∷ (r.offset ∷ (r.length ∷ (r.number ∷ [])))
 abbrev pub row_size : ℕ
 row_size = 4
 
--- the row that stands at a table's front, before others; a number that is no kind ends the rows
-abbrev pub row_onto : Option Kind → List ℕ → List Row → List Row
-row_onto None table rows = []
-row_onto (Some k) table rows =
-    record { kind = k; offset = ListN.get_or table 1 0; length = ListN.get_or table 2 0; number = ListN.get_or table 3 0 } ∷ rows
-
--- the first n rows of a row table
-unfoldable pub rows_in : ℕ → List ℕ → List Row
-rows_in zero table = []
-rows_in (suc n) table = row_onto (kind_of (ListN.get_or table 0 0)) table (rows_in n (ListN.drop row_size table))
+-- the first n rows of a row table as the numbers that stand there, whatever they are
+abbrev pub rows_in : ℕ → List ℕ → List (List ℕ)
+rows_in n table = first_chunks row_size n table
 
 -- where a line stands: its first byte, counting from 0, its length with terminator, its number
 pub record Line : Type 0 where

@@ -11,7 +11,7 @@ use machine::{Fed, Next};
 use searcher::Searcher;
 
 // An answer was refused. As unsound, no line waits: the end record comes where it is served, as it is after a stop; else what is
-// at hand is offered, and where nothing is, more is wanted.
+// at hand is offered, and where nothing is, more is wanted. Window and piece are lent for one call, as `offer` takes them.
 pub fn feed(s: Searcher, refusal: Refusal, window: &mut [u8], piece: &[u8]) -> Fed<Searcher>
     ensures value { result ≡ door_fed (fed s.session refusal window.old piece.now) }
     ensures window_after { window.new ≡ fed_window s.session refusal window.old piece.now }

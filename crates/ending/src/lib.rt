@@ -2,7 +2,7 @@
 #![tactic(auto)]
 
 ghost use Rattle.std.specs.Prelude.{◌≡◌};
-ghost use Rattle.session.specs.Calls.{gone_through, input_told, is_quit, record_of, record_result, recorded_place, tell_result, told_session};
+ghost use Rattle.session.specs.Calls.{gone_through, input_told, is_quit, record_numbers, record_of, record_result, recorded_place, tell_result, told_session};
 ghost use Rattle.session.specs.Sound.{Agree};
 
 use definition::{Binary, Cause, End, Going, Refusal};
@@ -95,4 +95,23 @@ fn gone_through(place: Option<u64>, bytes: u64) -> Option<u64>
     ensures { result ≡ gone_through place bytes }
 {
     place.filter(|p| *p < bytes)
+}
+
+// An end record as numbers, for what prints it or hands it to C: the refusal or 0, bytes, lines, matches, cause, and the
+// binary offset's flag and place. "A refused end record is all zeros."
+pub fn record_numbers(answer: Result<End, Refusal>) -> [u64; 7]
+    ensures { result ≡ record_numbers answer }
+{
+    match answer {
+        Ok(end) => [
+            0,
+            end.bytes,
+            end.lines,
+            end.matches,
+            u64::from(end.cause),
+            u64::from(end.binary_offset.is_some()),
+            end.binary_offset.unwrap_or(0),
+        ],
+        Err(refusal) => [u64::from(refusal), 0, 0, 0, 0, 0, 0],
+    }
 }

@@ -22,15 +22,13 @@ use Rattle.session.specs.declared.Session.{Session}
 use Rattle.session.specs.Calls.{open_result, opened}
 use Rattle.session.proofs.Parts.{part_drop, part_length}
 use Rattle.session.proofs.Refusals.{refusal_some}
-use Rattle.output.specs.declared.Pending.{Pending}
-use Rattle.output.specs.Output.{Tells}
 use Rattle.search_machine.specs.declared.Seen.{Seen}
 use Rattle.search_machine.specs.declared.Seen.TheVariants.{Whole, Unfinished, TooLong}
 use Rattle.search_machine.specs.declared.Search.{Search}
 use Rattle.search_machine.specs.declared.Stage.TheVariants.{First, Second, Text}
 use Rattle.search_machine.specs.Head.{Stands, longest, looked_at}
 use Rattle.search_machine.specs.Search.{State, asks, search, state_at, turn_of}
-use Rattle.search_machine.specs.Standing.{HeadReady, OpenedTo, Ready, Turned, begun_with, opened_with, over_with, seen, wanting_with}
+use Rattle.search_machine.specs.Standing.{HeadReady, OpenedTo, OverWith, Ready, Turned, begun_with, opened_with, seen, wanting_with}
 use Rattle.printing.specs.Texts.{newline, refused_text}
 use Rattle.search_machine.proofs.Places.{same_state, tells_within, part_rolled, part_take}
 use Rattle.machine.proofs.Leads.{closes_ends, leads_goes, leads_none}
@@ -61,16 +59,16 @@ module _ {s : Search} {literal input out : List ℕ} (w : List ℕ) (ready : Hea
   nothing_yet = ap (λ n. take n out) ready.nothing.none
 
   -- over, with a text printed
-  once_over : (text : List ℕ) → turn_of st ≡ ends text → {p : Pending} {after : List ℕ} → Tells s.pending out text p after
-      → Turned st (over_with s p) w literal input after
-  once_over text e {p} {after} t =
-      record {
+  once_over : (text : List ℕ) → turn_of st ≡ ends text → {r : Search} {after : List ℕ} → OverWith s text out r after
+      → Turned st r w literal input after
+  once_over text e (is, t) =
+      rw is (record {
         count = 0 + 1;
         does = rw (t.text_is, nothing_yet) (closes_ends search 0 st [] st text (leads_none search st) e);
         room = tt;
         placed = record { literal_in = ready.placed.literal_in; from_to = ready.placed.from_to; to_in = ready.placed.to_in };
         collects = record { within = tells_within (omega (arith, ready.nothing)) t; kept = t.lost_is ∙ ready.nothing.kept };
-      }
+      })
 
   -- # A line that is not whole, in either stage
 
@@ -88,8 +86,8 @@ module _ {s : Search} {literal input out : List ℕ} (w : List ℕ) (ready : Hea
   turn_long (inr e) h = rw (e, sym h)
 
   -- it is too long
-  pub once_long : In_head → TooLong ≡ looked_at rest → {p : Pending} {after : List ℕ} → Tells s.pending out (refused_text 1) p after
-      → Turned st (over_with s p) w literal input after
+  pub once_long : In_head → TooLong ≡ looked_at rest → {r : Search} {after : List ℕ} → OverWith s (refused_text 1) out r after
+      → Turned st r w literal input after
   once_long e h t = once_over (refused_text 1) (turn_long e h) t
 
   -- a read is wanted, and what is left moves to the front
@@ -136,9 +134,9 @@ module _ {s : Search} {literal input out : List ℕ} (w : List ℕ) (ready : Hea
     unfolding turn_of
     turn_asks e asked k = rw (e, sym h, k, line_is)
 
-    pub once_unasked : s.stage ≡ First → None ≡ asked_of (part s.from (s.from + n) input) → {p : Pending} {after : List ℕ}
-        → Tells s.pending out (refused_text 1) p after
-        → Turned st (over_with s p) w literal input after
+    pub once_unasked : s.stage ≡ First → None ≡ asked_of (part s.from (s.from + n) input) → {r : Search} {after : List ℕ}
+        → OverWith s (refused_text 1) out r after
+        → Turned st r w literal input after
     once_unasked e k t = once_over (refused_text 1) (turn_asks e None k) t
 
     turn_opens : s.stage ≡ First → (c : Settings) → Some c ≡ asked_of (part s.from (s.from + n) input)
@@ -168,7 +166,7 @@ module _ {s : Search} {literal input out : List ℕ} (w : List ℕ) (ready : Hea
               placed = record { literal_in = ready.placed.literal_in; from_to = omega (arith, inside); to_in = ready.placed.to_in };
               collects = record { within = omega (arith, ready.nothing); kept = ready.nothing.kept };
             })
-        go (Err q) refused d = rw d.1 (once_over (refused_text (refusal_number q.refusal)) (turn_refuses e c k q refused) d.2)
+        go (Err q) refused d = once_over (refused_text (refusal_number q.refusal)) (turn_refuses e c k q refused) d
 
     -- the second line is the literal
     turn_begins : s.stage ≡ Second → turn_of st ≡ goes [] (state_at Text (take n rest) s.searcher.session w (drop (n + 1) rest))

@@ -23,14 +23,12 @@ use Rattle.session.specs.Calls.{tell_result}
 use Rattle.session.proofs.Parts.{part_split}
 use Rattle.streams.specs.declared.Failure.{Failure}
 use Rattle.streams.specs.declared.Failure.TheVariants.{Interrupted, Errno}
-use Rattle.output.specs.declared.Pending.{Pending}
-use Rattle.output.specs.Output.{Tells}
 use Rattle.streams.specs.Moves.{failed_read}
 use Rattle.search_machine.specs.declared.Search.{Search}
 use Rattle.search_machine.specs.declared.Stage.{Stage}
 use Rattle.search_machine.specs.declared.Stage.TheVariants.{First, Second, Text}
 use Rattle.search_machine.specs.Search.{State, hears_of, state_at}
-use Rattle.search_machine.specs.Standing.{Gives, HasRoom, Heard, Hearing, going_with, heard_as, over_with, printed, seen, with_more}
+use Rattle.search_machine.specs.Standing.{Gives, HasRoom, Heard, Hearing, OverWith, going_with, heard_as, printed, seen, with_more}
 use Rattle.printing.specs.Texts.{end_text, refused_text}
 use Rattle.search_machine.proofs.Places.{tells_within}
 
@@ -65,16 +63,16 @@ module _ {s : Search} {got : Result ℕ Failure} {input out : List ℕ} (w liter
   nothing_yet = ap (λ n. take n out) hearing.nothing.none
 
   -- all is told
-  heard_over : (text : List ℕ) → heard_as got s.to input (seen s w literal input) ≡ ends text → {p : Pending} {after : List ℕ}
-      → Tells s.pending out text p after
-      → Heard s got w literal input (over_with s p) after
-  heard_over text e {p} {after} t =
-      record {
+  heard_over : (text : List ℕ) → heard_as got s.to input (seen s w literal input) ≡ ends text → {r : Search} {after : List ℕ}
+      → OverWith s text out r after
+      → Heard s got w literal input r after
+  heard_over text e (is, t) =
+      rw is (record {
         hears = rw (t.text_is, nothing_yet) e;
         room = tt;
         placed = record { literal_in = hearing.placed.literal_in; from_to = hearing.placed.from_to; to_in = hearing.placed.to_in };
         collects = record { within = tells_within (omega (arith, hearing.nothing)) t; kept = t.lost_is ∙ hearing.nothing.kept };
-      }
+      })
 
 module _ {s : Search} {input out : List ℕ} (w literal : List ℕ) where
   -- more bytes
@@ -92,8 +90,8 @@ module _ {s : Search} {input out : List ℕ} (w literal : List ℕ) where
       }
 
   -- a failure
-  pub heard_failed : {reason : ℤ} → Hearing s (Err (Errno reason)) input out → {p : Pending} {after : List ℕ} → Tells s.pending out failed_read p after
-      → Heard s (Err (Errno reason)) w literal input (over_with s p) after
+  pub heard_failed : {reason : ℤ} → Hearing s (Err (Errno reason)) input out → {r : Search} {after : List ℕ} → OverWith s failed_read out r after
+      → Heard s (Err (Errno reason)) w literal input r after
   heard_failed hearing t = heard_over w literal hearing failed_read (hears_failed s.stage (take s.size literal) s.searcher.session w (part s.from s.to input)) t
 
   -- the end
@@ -106,8 +104,8 @@ module _ {s : Search} {input out : List ℕ} (w literal : List ℕ) where
     head_ends (inl e) = rw e
     head_ends (inr e) = rw e
 
-    pub heard_short : (s.stage ≡ First) ⊎ (s.stage ≡ Second) → {p : Pending} {after : List ℕ} → Tells s.pending out (refused_text 1) p after
-        → Heard s (Ok 0) w literal input (over_with s p) after
+    pub heard_short : (s.stage ≡ First) ⊎ (s.stage ≡ Second) → {r : Search} {after : List ℕ} → OverWith s (refused_text 1) out r after
+        → Heard s (Ok 0) w literal input r after
     heard_short e t = heard_over w literal hearing (refused_text 1) (head_ends e) t
 
     module _ (in_text : s.stage ≡ Text) {f : Fed Searcher} (e : f ≡ door_fed (fed_end s.searcher.session)) where
@@ -132,10 +130,10 @@ module _ {s : Search} {input out : List ℕ} (w literal : List ℕ) where
             collects = record { within = omega (arith, hearing.nothing); kept = hearing.nothing.kept };
           }
 
-      pub heard_refused : {k : Refusal} → f.next ≡ Refuses k → {p : Pending} {after : List ℕ} → Tells s.pending out (refused_text (refusal_number k)) p after
-          → Heard s (Ok 0) w literal input (over_with s p) after
+      pub heard_refused : {k : Refusal} → f.next ≡ Refuses k → {r : Search} {after : List ℕ} → OverWith s (refused_text (refusal_number k)) out r after
+          → Heard s (Ok 0) w literal input r after
       heard_refused {k} n t = heard_over w literal hearing (refused_text (refusal_number k)) (text_refuses n) t
 
-      pub heard_end : {end : End} → f.next ≡ Ends end → {p : Pending} {after : List ℕ} → Tells s.pending out (end_text end) p after
-          → Heard s (Ok 0) w literal input (over_with s p) after
+      pub heard_end : {end : End} → f.next ≡ Ends end → {r : Search} {after : List ℕ} → OverWith s (end_text end) out r after
+          → Heard s (Ok 0) w literal input r after
       heard_end {end} n t = heard_over w literal hearing (end_text end) (text_ends n) t

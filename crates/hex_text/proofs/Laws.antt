@@ -6,10 +6,6 @@ use native.Mathlib.Numerals.{add-one}
 use native.Mathlib.Omega.{arith}
 use lib.ListN.{length, take, get_or, length-take}
 use lib.Seq.{take-suc}
-use Rattle.definition.specs.Text.{put_at}
-use Rattle.definition.proofs.Lists.{put_at_none}
-use Rattle.output.specs.declared.Pending.{Pending}
-use Rattle.output.specs.Output.{added}
 use Rattle.hex_text.specs.Hex.{glyph_of, hex_text, hexed}
 
 pub length_hexed : (xs : List ℕ) → length (hexed xs) ≡ 2 * length xs
@@ -24,13 +20,6 @@ hexed_append (x ∷ xs) ys = ap (λ zs. glyph_of (x / 16) ∷ (glyph_of (x % 16)
 
 pub length_taken : (i : ℕ) (xs : List ℕ) → i ≤ length xs → length (hexed (take i xs)) ≡ 2 * i
 length_taken i xs h = omega (arith, length_hexed (take i xs), length-take i xs)
-
--- none of the bytes yet
-pub collected_none : (p : Pending) (out xs : List ℕ) → (p ≡ added p (hexed (take 0 xs))) × (out ≡ put_at p.length (hexed (take 0 xs)) out)
-unfolding hexed
-collected_none p out xs =
-    let e : p.length + 0 ≡ p.length = omega arith in
-    (rw e, sym (put_at_none p.length out))
 
 -- one byte more
 pub hexed_next : (i : ℕ) (xs : List ℕ) → i < length xs

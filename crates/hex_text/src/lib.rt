@@ -1,44 +1,27 @@
 // Bytes as hexadecimal digits, two lower-case ones a byte or `-` for none, both ways.
 #![tactic(auto)]
 
-ghost use Rattle.std.specs.Prelude.{◌≡◌, ◌+◌, ◌≤◌, ◌<◌, leb, length, IfSome};
-ghost use Rattle.output.specs.Output.{collected, collected_in};
+ghost use Rattle.std.specs.Prelude.{◌≡◌, ◌≤◌, ◌<◌, length, IfSome};
+ghost use Rattle.output.specs.Output.{collected, seen};
 ghost use Rattle.hex_text.specs.Hex.{glyph_of, hex_text};
 
-use output::Pending;
+use output::Output;
 
 // Collects bytes as two lower-case hexadecimal digits each, or `-` where there are none.
-pub fn put(out: &mut [u8], pending: Pending, bytes: &[u8]) -> Pending
-    ensures value { result ≡ collected pending (hex_text bytes.now) out.old }
-    ensures out_after { out.new ≡ collected_in pending (hex_text bytes.now) out.old }
+pub fn put(out: &mut Output, bytes: &[u8])
+    ensures { seen out.new ≡ collected (seen out.old) (hex_text bytes.now) }
 {
     if bytes.is_empty() {
-        return output::put(out, pending, b"-");
+        out.put(b"-");
+        return;
     }
-    if !has_room(out, pending.length, bytes) {
-        return Pending {
-            length: pending.length,
-            lost: true,
-        };
+    if !out.has_room(2 * bytes.len()) {
+        out.pending.lost = true;
+        return;
     }
-    let mut p = pending;
     for byte in bytes {
-        let pair = [glyph(*byte / 16), glyph(*byte % 16)];
-        p = output::put(out, p, &pair);
+        out.put(&[glyph(*byte / 16), glyph(*byte % 16)]);
     }
-    p
-}
-
-// Whether two digits for each of some bytes have room behind a place.
-#[tactic(auto, using(crate::proofs::Laws::length_hex_text))]
-fn has_room(out: &[u8], at: usize, bytes: &[u8]) -> bool
-    requires { 0 < length bytes.now }
-    ensures { result ≡ leb (at + length (hex_text bytes.now)) (length out.now) }
-{
-    if out.len() < at {
-        return false;
-    }
-    bytes.len() <= (out.len() - at) / 2
 }
 
 fn glyph(digit: u8) -> u8

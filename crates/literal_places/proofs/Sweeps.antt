@@ -10,7 +10,7 @@ use lib.ListN.{length, get_or, drop}
 use lib.Seq.{get_or-drop}
 use borrow.Author.Tests.{eq-eqb}
 use Rattle.literal_places.specs.Literal.{starts_with, stands}
-use Rattle.literal_places.specs.Sweeps.{Nowhere, Swept, Fit, any_hit}
+use Rattle.literal_places.specs.Sweeps.{Nowhere, Swept, any_hit}
 use Rattle.literal_places.proofs.Stands.{starts_byte}
 
 -- without a hit, one of the two bytes is missing at each of the places
@@ -39,9 +39,9 @@ no_hit literal line first second at (suc n) k h l s t =
         true≢false (sym (rw (x, y)) ∙ or_right (any_hit literal line first second at n) _ h)
 
 -- so the literal stands at none of them
-pub miss : {literal line : List ℕ} {first second to : ℕ} {r : Bool} (at n : ℕ) → Fit literal line first second to
+pub miss : (literal line : List ℕ) {first second : ℕ} {r : Bool} (at n : ℕ) → first < length literal → second < length literal
     → r ≡ any_hit literal line first second at n → r ≡ false → Nowhere literal line at (at + n)
-miss {literal} {line} {first} {second} at n fit told left j l m = go (starts_with literal (drop j line)) refl
+miss literal line {first} {second} at n first_in second_in told left j l m = go (starts_with literal (drop j line)) refl
   where
     byte : (k : ℕ) → k < length literal → starts_with literal (drop j line) ≡ true → get_or line (at + k + (j - at)) 0 ≡ get_or literal k 0
     byte k i e =
@@ -51,8 +51,8 @@ miss {literal} {line} {first} {second} at n fit told left j l m = go (starts_wit
     go : (t : Bool) → starts_with literal (drop j line) ≡ t → t ≡ false
     go true e =
         absurd
-        (no_hit literal line first second at n (j - at) (sym told ∙ left) (omega arith) (byte first fit.first_in e)
-        (byte second fit.second_in e))
+        (no_hit literal line first second at n (j - at) (sym told ∙ left) (omega arith) (byte first first_in e)
+        (byte second second_in e))
     go false e = refl
 
 -- a place that was compared

@@ -1,5 +1,5 @@
 -- What the search asks and tells on its way; the contracts of `literal`'s public functions do not cite it.
-use Rattle.std.specs.Prelude.{ℕ, zero, suc, ◌+◌, ◌≤◌, ◌<◌, ◌≡◌, Bool, true, false, ◌&&◌, ◌||◌, List, eqb, length, get_or, drop}
+use Rattle.std.specs.Prelude.{ℕ, zero, suc, ◌+◌, ◌≤◌, ◌<◌, ◌≡◌, Bool, true, false, ◌&&◌, ◌||◌, List, eqb, get_or, drop}
 use Rattle.literal_places.specs.Literal.{starts_with, stands}
 
 -- the literal stands at none of the places from `from` up to `to`
@@ -10,12 +10,6 @@ Nowhere literal line from to = (j : ℕ) → from ≤ j → j < to → starts_wi
 pub record Swept (literal line : List ℕ) (from to : ℕ) (answer : Bool) : Type 0 where
   pub found : answer ≡ true → stands literal line ≡ true
   pub none : answer ≡ false → Nowhere literal line from to
-
--- the two chosen bytes are in the literal, and the literal fits into the line at every place below `to`
-pub record Fit (literal line : List ℕ) (first second to : ℕ) : Type 0 where
-  pub first_in : first < length literal
-  pub second_in : second < length literal
-  pub room : to + length literal ≤ length line + 1
 
 -- whether at one of the n places from `at` on both chosen bytes stand where the literal would have them
 unfoldable pub any_hit : List ℕ → List ℕ → ℕ → ℕ → ℕ → ℕ → Bool

@@ -1,7 +1,6 @@
 -- Where a run is over or no more is read, what it has printed is what must be printed.
 use Rattle.std.proofs.Common.{◌≡◌, ℕ, ◌-◌, ◌<◌, ◌≤◌, Bool, true, false, ◌⊎◌, List, [], ◌∷◌, ◌++◌, length, take, drop, sym, refl, ap, ◌∙◌, subst, inl, inr, ⊎_elim, true≢false, append-nil, arith, length-append}
 use Rattle.definition.specs.declared.Going.TheVariants.{On}
-use Rattle.definition.specs.declared.Row.{Row}
 use Rattle.definition.specs.declared.Settings.{Settings}
 use Rattle.definition.specs.Bounds.{max_input}
 use Rattle.definition.specs.Definition.{gone_lines, quit_met}
@@ -28,13 +27,13 @@ use Rattle.machine.specs.Promises.{Ending, Gone, HasEnded, Prints, Whole, breaks
 use Rattle.machine.proofs.Counted.{Facts, facts, past, upto}
 
 -- one moment of a run of a program: what is still to come of the input is `rest`
-pub record Now (p : Program) (c : Settings) (input : List ℕ) (how : Ending) (s : Session) (w rest : List ℕ) (count : ℕ) (given : List Row) : Type 0 where
+pub record Now (p : Program) (c : Settings) (input : List ℕ) (how : Ending) (s : Session) (w rest : List ℕ) (count : ℕ) (given : List (List ℕ)) : Type 0 where
   pub same : s.walk.settings ≡ c
   pub inv : Inv input (answers_of p.matcher c input) s w rest count given
   pub told : s.places.input ≡ Ended → how ≡ whole
   pub lines_whole : s.places.input ≡ Open → Whole c.terminator (upto c input count)
 
-module _ (p : Program) (input : List ℕ) (how : Ending) (s : Session) (w rest : List ℕ) (count : ℕ) (given : List Row)
+module _ (p : Program) (input : List ℕ) (how : Ending) (s : Session) (w rest : List ℕ) (count : ℕ) (given : List (List ℕ))
     (n : Now p s.walk.settings input how s w rest count given) where
   abbrev c : Settings
   c = s.walk.settings

@@ -3,7 +3,6 @@ use Rattle.std.proofs.Common.{◌≡◌, ℕ, ◌+◌, ◌≤◌, Bool, ◌⊎�
 use mathlib.Core.List.{flatten}
 use Rattle.definition.specs.declared.Going.{Going}
 use Rattle.definition.specs.declared.Going.TheVariants.{On, LimitMet, NonmatchMet}
-use Rattle.definition.specs.declared.Row.{Row}
 use Rattle.definition.specs.declared.Settings.{Settings}
 use Rattle.definition.specs.Bounds.{max_input}
 use Rattle.definition.specs.Definition.{gone_lines}
@@ -81,7 +80,7 @@ pub record Facts (c : Settings) (input : List ℕ) (answers : ℕ → Bool) (s :
   pub kept_is : kept_before c answers (upto c input count) ≡ kept_bytes s w
   pub gone : Gone c input answers s.places.window (upto c input count) (past c input count)
 
-module _ (input : List ℕ) (answers : ℕ → Bool) (s : Session) (w rest : List ℕ) (count : ℕ) (given : List Row)
+module _ (input : List ℕ) (answers : ℕ → Bool) (s : Session) (w rest : List ℕ) (count : ℕ) (given : List (List ℕ))
     (i : Inv input answers s w rest count given) where
   -- the lines gone through are the first so many
   pub gone_is : upto s.walk.settings input count ≡ i.gone

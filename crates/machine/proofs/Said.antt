@@ -51,7 +51,7 @@ said_rows p printRow h c answers s (l ∷ ls) =
     printed_append f (x ∷ xs) ys =
         ap (λ z. f x ++ z) (printed_append f xs ys) ∙ sym (append_assoc (f x) (flatten (map f xs)) (flatten (map f ys)))
 
-module _ (p : Program) (input : List ℕ) (s : Session) (w rest : List ℕ) (count : ℕ) (given : List Row)
+module _ (p : Program) (input : List ℕ) (s : Session) (w rest : List ℕ) (count : ℕ) (given : List (List ℕ))
     (i : Inv input (answers_of p.matcher s.walk.settings input) s w rest count given) (v : waits s w ≡ true) where
   -- one line more is gone through
   pub upto_next : upto s.walk.settings input (count + 1) ≡ upto s.walk.settings input count ++ (line s w ∷ [])

@@ -1,7 +1,6 @@
 -- Turn after turn, and read after read, until what must be printed is printed.
 use Rattle.std.proofs.Common.{◌≡◌, ℕ, zero, suc, ◌+◌, ◌*◌, ◌≤◌, false, List, [], ◌∷◌, ◌++◌, length, sym, refl, ap, ◌∙◌, subst, append_assoc, append-nil, arith}
 use Rattle.definition.specs.declared.Going.TheVariants.{On}
-use Rattle.definition.specs.declared.Row.{Row}
 use Rattle.definition.specs.declared.Settings.{Settings}
 use Rattle.session.specs.declared.Input.TheVariants.{Open, Ended}
 use Rattle.session.specs.declared.Session.{Session}
@@ -45,7 +44,7 @@ module _ (p : Program) (c : Settings) (input : List ℕ) (how : Ending) where
   not_whole : (h : Ending) → how ≡ h → (h ≡ whole → ⊥) → how ≡ whole → ⊥
   not_whole h e k z = k (sym e ∙ z)
 
-  module _ (s : Session) (w rest : List ℕ) (count : ℕ) (given : List Row) (n : Now p c input how s w rest count given)
+  module _ (s : Session) (w rest : List ℕ) (count : ℕ) (given : List (List ℕ)) (n : Now p c input how s w rest count given)
       (v : waits s w ≡ false) (open-now : s.places.input ≡ Open) (on_now : s.walk.going ≡ On) (none : rest ≡ []) where
     cut_now : (h : Ending) → how ≡ h → (h ≡ whole → ⊥) → SoFar s.places.window count (breaks_off h p)
     cut_now h e k =
@@ -58,12 +57,12 @@ module _ (p : Program) (c : Settings) (input : List ℕ) (how : Ending) where
 
   -- # The end is told
 
-  told_input : (s : Session) (w rest : List ℕ) (count : ℕ) (given : List Row) → Now p c input how s w rest count given → s.places.input ≡ Open → s.walk.going ≡ On
+  told_input : (s : Session) (w rest : List ℕ) (count : ℕ) (given : List (List ℕ)) → Now p c input how s w rest count given → s.places.input ≡ Open → s.walk.going ≡ On
       → ((told s).session.walk.settings ≡ s.walk.settings) × ((told s).session.places.window ≡ s.places.window) × ((told s).session.places.input ≡ Ended)
   unfolding tell_result telling told told_session
   told_input s w rest count given n e g = rw (agrees_of s n.inv.agree, g, e) (refl, refl, refl)
 
-  told_now : (s : Session) (w : List ℕ) (count : ℕ) (given : List Row) → Now p c input how s w [] count given → s.places.input ≡ Open → s.walk.going ≡ On
+  told_now : (s : Session) (w : List ℕ) (count : ℕ) (given : List (List ℕ)) → Now p c input how s w [] count given → s.places.input ≡ Open → s.walk.going ≡ On
       → how ≡ whole → Now p c input how (told s).session w [] count given
   told_now s w count given n e g h =
       let t = told_input s w [] count given n e g in
@@ -78,13 +77,13 @@ module _ (p : Program) (c : Settings) (input : List ℕ) (how : Ending) where
 
   abbrev Settles : ℕ → Type 0
   Settles n =
-      (s : Session) (w rest future : List ℕ) (count : ℕ) (given : List Row) (reads : List Read)
+      (s : Session) (w rest future : List ℕ) (count : ℕ) (given : List (List ℕ)) (reads : List Read)
       → Now p c input how s w (rest ++ future) count given → Reading s future reads
       → weight s (rest ++ future) + 2 * length reads + 2 ≤ n
       → SoFar s.places.window count (run (driver p) n (turns p (at s w rest)) reads)
 
   -- what was read stands behind what was at hand
-  heard_some : (n : ℕ) → Settles n → (s : Session) (w future : List ℕ) (count : ℕ) (given : List Row) (bytes : List ℕ) (reads : List Read)
+  heard_some : (n : ℕ) → Settles n → (s : Session) (w future : List ℕ) (count : ℕ) (given : List (List ℕ)) (bytes : List ℕ) (reads : List Read)
       → Now p c input how s w future count given → s.places.input ≡ Open → future ≡ bytes ++ bytes_of reads → how ≡ ending_of reads
       → weight s future + 2 * length reads + 2 ≤ n
       → SoFar s.places.window count (run (driver p) (suc n) (hears p (some bytes) (at s w [])) reads)
@@ -94,7 +93,7 @@ module _ (p : Program) (c : Settings) (input : List ℕ) (how : Ending) where
       (sym (append-nil (said p c input (upto c input count))))
       (on s w bytes (bytes_of reads) count given reads now' (λ _. (refl, h)) (subst (λ x. weight s x + 2 * length reads + 2 ≤ n) f l))
 
-  heard_end : (n : ℕ) → Settles n → (s : Session) (w : List ℕ) (count : ℕ) (given : List Row) (reads : List Read)
+  heard_end : (n : ℕ) → Settles n → (s : Session) (w : List ℕ) (count : ℕ) (given : List (List ℕ)) (reads : List Read)
       → Now p c input how s w [] count given → s.places.input ≡ Open → s.walk.going ≡ On → how ≡ whole
       → weight s [] + 2 * length reads + 2 ≤ n
       → SoFar s.places.window count (run (driver p) (suc n) (hears p ended (at s w [])) reads)
@@ -111,7 +110,7 @@ module _ (p : Program) (c : Settings) (input : List ℕ) (how : Ending) where
       (λ z. absurd (let y : ◌≡◌ {A = ℕ} 0 1 = cc t.2 in omega (arith, y))) (omega (arith, l, lighter))))
 
   -- a read is wanted
-  heard : (n : ℕ) → Settles n → (s : Session) (w future : List ℕ) (count : ℕ) (given : List Row) (reads : List Read)
+  heard : (n : ℕ) → Settles n → (s : Session) (w future : List ℕ) (count : ℕ) (given : List (List ℕ)) (reads : List Read)
       → Now p c input how s w future count given → s.places.input ≡ Open → s.walk.going ≡ On → waits s w ≡ false
       → future ≡ bytes_of reads → how ≡ ending_of reads → weight s future + 2 * length reads + 2 ≤ suc (suc n)
       → SoFar s.places.window count (run (driver p) (suc (suc n)) (wants (at s w [])) reads)
@@ -133,7 +132,7 @@ module _ (p : Program) (c : Settings) (input : List ℕ) (how : Ending) where
       ∙ run_ends (driver p) n (ends p.fails) reads p.fails refl))
       (cut_now s w future count given now v e g f broken h (λ z. let y : ◌≡◌ {A = ℕ} 0 1 = cc in omega arith))
 
-  settle_by : (n : ℕ) → Settles (suc n) → Settles n → (s : Session) (w rest future : List ℕ) (count : ℕ) (given : List Row) (reads : List Read)
+  settle_by : (n : ℕ) → Settles (suc n) → Settles n → (s : Session) (w rest future : List ℕ) (count : ℕ) (given : List (List ℕ)) (reads : List Read)
       → Now p c input how s w (rest ++ future) count given → Reading s future reads
       → weight s (rest ++ future) + 2 * length reads + 2 ≤ suc (suc n)
       → Did p c input how s w rest future count given

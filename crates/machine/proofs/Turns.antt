@@ -2,11 +2,11 @@
 -- wants a read, and then nothing is at hand.
 use Rattle.definition.specs.declared.Refusal.TheVariants.{Unsound}
 use Rattle.std.proofs.Common.{◌≡◌, ℕ, ◌+◌, ◌*◌, ◌<◌, ◌≤◌, Bool, true, false, List, [], ◌∷◌, ◌++◌, length, take, drop, sym, refl, ap, ◌∙◌, subst, ⊎_elim, append-nil, arith}
+use mathlib.Core.List.{map}
 use lib.Seq.{drop-append-le, take-append_seam}
 use Rattle.definition.specs.declared.Going.TheVariants.{On}
-use Rattle.definition.specs.declared.Row.{Row}
 use Rattle.definition.specs.declared.Settings.{Settings}
-use Rattle.definition.specs.Rows.{row_size}
+use Rattle.definition.specs.Rows.{flat, row_size}
 use Rattle.definition.specs.Text.{first_place}
 use Rattle.definition.proofs.Terminator.{line_ends}
 use Rattle.driver_core.specs.Answer.{walk_next}
@@ -34,9 +34,9 @@ use Rattle.machine.proofs.Counted.{upto}
 use Rattle.machine.proofs.Feeds.{at, feeds_ends, feeds_goes, feeds_refused, feeds_wants, turn_feeds, turn_gives}
 use Rattle.machine.proofs.Said.{said_next, upto_next, whole_snoc}
 
-module _ (p : Program) (c : Settings) (input : List ℕ) (how : Ending) (s : Session) (w rest future : List ℕ) (count : ℕ) (given : List Row) where
+module _ (p : Program) (c : Settings) (input : List ℕ) (how : Ending) (s : Session) (w rest future : List ℕ) (count : ℕ) (given : List (List ℕ)) where
   pub data Did : Type 0 where
-    went : (text : List ℕ) (s' : Session) (w' rest' : List ℕ) (count' : ℕ) (given' : List Row)
+    went : (text : List ℕ) (s' : Session) (w' rest' : List ℕ) (count' : ℕ) (given' : List (List ℕ))
         → turns p (at s w rest) ≡ goes text (at s' w' rest')
         → Now p c input how s' w' (rest' ++ future) count' given'
         → weight s' (rest' ++ future) < weight s (rest ++ future)
@@ -64,7 +64,7 @@ offer_ended Idle s w piece e h = let z : ◌≡◌ {A = ℕ} 0 1 = cc in omega a
 offer_ended (Take n true) s w piece e h = let z : ◌≡◌ {A = ℕ} 0 1 = cc in omega arith
 offer_ended (Take n false) s w piece e h = let z : ◌≡◌ {A = ℕ} 0 1 = cc in omega arith
 
-module _ (p : Program) (input : List ℕ) (how : Ending) (s : Session) (w rest future : List ℕ) (count : ℕ) (given : List Row)
+module _ (p : Program) (input : List ℕ) (how : Ending) (s : Session) (w rest future : List ℕ) (count : ℕ) (given : List (List ℕ))
     (n : Now p s.walk.settings input how s w (rest ++ future) count given) where
   abbrev c : Settings
   c = s.walk.settings
@@ -88,7 +88,7 @@ module _ (p : Program) (input : List ℕ) (how : Ending) (s : Session) (w rest f
       let u = unanswered s w in
       ⊎_elim (λ h. omega (arith, line_ends t u h)) (λ h. absurd (let z : ◌≡◌ {A = ℕ} 0 1 = cc (ap is_open e) in omega (arith, z))) (why_waits s w v).1
 
-  answered_now : (v : waits s w ≡ true) → Now p c input how (answer_session s w (answers (count + 1))) w (rest ++ future) (count + 1) (given ++ answer_rows s w (answers (count + 1)))
+  answered_now : (v : waits s w ≡ true) → Now p c input how (answer_session s w (answers (count + 1))) w (rest ++ future) (count + 1) (given ++ map flat (answer_rows s w (answers (count + 1))))
   unfolding answer_session places_next walk_next
   answered_now v =
       record {
@@ -106,7 +106,7 @@ module _ (p : Program) (input : List ℕ) (how : Ending) (s : Session) (w rest f
       let hit = answers (count + 1) in
       let room : row_size * (c.before + 2) ≤ table_size = omega (arith, before_allowed c i.agree.walk.set) in
       let e = waiting_now input answers s w (rest ++ future) count given i v in
-      went (p.says (shown_line s w) (answer_rows s w hit)) (answer_session s w hit) w rest (count + 1) (given ++ answer_rows s w hit)
+      went (p.says (shown_line s w) (answer_rows s w hit)) (answer_session s w hit) w rest (count + 1) (given ++ map flat (answer_rows s w hit))
       (turn_gives p s w rest hit (sym (asked_inv p.matcher input s w (rest ++ future) count given i e))
       (answer_gives input answers s w (rest ++ future) count given i table_size hit v room))
       (answered_now v)
@@ -194,7 +194,7 @@ module _ (p : Program) (input : List ℕ) (how : Ending) (s : Session) (w rest f
       go false v = did_none v rest refl
 
 -- the same for the settings that the program was opened with
-pub did_of : (p : Program) (c : Settings) (input : List ℕ) (how : Ending) (s : Session) (w rest future : List ℕ) (count : ℕ) (given : List Row)
+pub did_of : (p : Program) (c : Settings) (input : List ℕ) (how : Ending) (s : Session) (w rest future : List ℕ) (count : ℕ) (given : List (List ℕ))
     → Now p c input how s w (rest ++ future) count given → Did p c input how s w rest future count given
 did_of p c input how s w rest future count given n =
     subst (λ x. Now p x input how s w (rest ++ future) count given → Did p x input how s w rest future count given) n.same

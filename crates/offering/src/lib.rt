@@ -11,7 +11,7 @@ use definition::Refusal;
 use session::{Input, Offered, Places, Refused, Session};
 
 // What a served offer moves and takes: the window's bytes from a place on go to its front, so many bytes of the piece come in
-// behind them, and a Quit byte comes next or not.
+// behind them, and a Quit byte comes next or not: a flag, since bytes may come in either way.
 #[derive(Clone, Copy)]
 pub struct Plan {
     pub from: usize,
@@ -19,6 +19,8 @@ pub struct Plan {
     pub quit: bool,
 }
 
+// A session is a value, the window and the piece are lent for one call, and each of the three is asked of alone below: a struct
+// would be made for the call and taken apart in it.
 pub fn offer(
     s: Session,
     window: &mut [u8],

@@ -11,41 +11,40 @@ use lib.ListN.{length, take, drop, length-append, length-take}
 use lib.Seq.{take_at}
 use borrow.Author.Tests.{le-leb, le-ltb, lt-leb, lt-ltb}
 use Rattle.definition.specs.Text.{put_at}
-use Rattle.definition.proofs.Lists.{length_put_at, put_at_append}
+use Rattle.definition.proofs.Lists.{length_put_at, put_at_append, put_at_none}
 use Rattle.io.specs.Digits.{IsDigitCount, last_digits, hex_digit_ascii}
 use Rattle.output.specs.declared.Pending.{Pending}
-use Rattle.output.specs.Output.{Tells, added, collected, collected_in, decimal, fits, spelled}
+use Rattle.output.specs.Output.{Collected, Tells, Told, added, collected, decimal, fits, over, spelled}
 
 -- # Text behind what is pending
 
-pub collected_room : (p : Pending) (text out : List ℕ) → p.length + length text ≤ length out
-    → (collected p text out ≡ added p text) × (collected_in p text out ≡ put_at p.length text out)
-unfolding collected collected_in fits
-collected_room p text out h =
-    let room = le-leb (p.length + length text) (length out) h in
-    (rw room, rw room)
+pub collected_room : (o : Collected) (text : List ℕ) → o.pending.length + length text ≤ length o.room → collected o text ≡ added o text
+unfolding collected fits
+collected_room o text h = rw (le-leb (o.pending.length + length text) (length o.room) h)
 
-pub collected_lost : (p : Pending) (text out : List ℕ) → length out < p.length + length text
-    → (collected p text out ≡ record { length = p.length; lost = true }) × (collected_in p text out ≡ out)
-unfolding collected collected_in fits
-collected_lost p text out h =
-    let full = lt-leb (p.length + length text) (length out) h in
-    (rw full, rw full)
+pub collected_lost : (o : Collected) (text : List ℕ) → length o.room < o.pending.length + length text
+    → collected o text ≡ over o.loan o.room (record { length = o.pending.length; lost = true })
+unfolding collected fits
+collected_lost o text h = rw (lt-leb (o.pending.length + length text) (length o.room) h)
 
-added_more : (p : Pending) (xs ys : List ℕ) → added (added p xs) ys ≡ added p (xs ++ ys)
-added_more p xs ys =
-    let size : p.length + length xs + length ys ≡ p.length + length (xs ++ ys) = omega (arith, length-append xs ys) in
-    ap (λ n. record { length = n; lost = p.lost }) size
+pub added_none : (o : Collected) → added o [] ≡ o
+added_none o =
+    let size : o.pending.length + 0 ≡ o.pending.length = omega arith in
+    rw (put_at_none o.pending.length o.room, size) refl
+
+-- a text added behind another is both
+pub added_more : (o : Collected) (xs ys : List ℕ) → o.pending.length + length xs + length ys ≤ length o.room
+    → added (added o xs) ys ≡ added o (xs ++ ys)
+added_more o xs ys h =
+    let size : o.pending.length + length xs + length ys ≡ o.pending.length + length (xs ++ ys) = omega (arith, length-append xs ys) in
+    rw (put_at_append o.pending.length xs ys o.room (omega arith), size)
 
 -- a text collected behind another is both
-pub collected_more : (p q : Pending) (xs ys out mid : List ℕ) → (q ≡ added p xs) × (mid ≡ put_at p.length xs out)
-    → p.length + length xs + length ys ≤ length out
-    → (collected q ys mid ≡ added p (xs ++ ys)) × (collected_in q ys mid ≡ put_at p.length (xs ++ ys) out)
-collected_more p q xs ys out mid front h =
-    let size = length_put_at p.length xs out (omega arith) in
-    let here : (added p xs).length + length ys ≤ length (put_at p.length xs out) = omega arith in
-    let both = collected_room (added p xs) ys (put_at p.length xs out) here in
-    rw (front.0, front.1) (both.0 ∙ added_more p xs ys, both.1 ∙ sym (put_at_append p.length xs ys out (omega arith)))
+pub collected_more : (o : Collected) (xs ys : List ℕ) → o.pending.length + length xs + length ys ≤ length o.room
+    → collected (added o xs) ys ≡ added o (xs ++ ys)
+collected_more o xs ys h =
+    let size = length_put_at o.pending.length xs o.room (omega arith) in
+    collected_room (added o xs) ys (omega arith) ∙ added_more o xs ys h
 
 take_put_at : (at : ℕ) (new old : List ℕ) → at + length new ≤ length old → take (at + length new) (put_at at new old) ≡ take at old ++ new
 unfolding put_at
@@ -57,13 +56,6 @@ take_put_at at new old h =
 pub tells_none : (p : Pending) (out : List ℕ) → Tells p out [] p out
 tells_none p out = record { length_is = omega arith; lost_is = refl; text_is = sym (append-nil (take p.length out)); size_is = refl }
 
-pub tells : (p : Pending) (text out : List ℕ) → p.length + length text ≤ length out
-    → Tells p out text (collected p text out) (collected_in p text out)
-tells p text out h =
-    let room = collected_room p text out h in
-    rw (room.0, room.1)
-    (record { length_is = refl; lost_is = refl; text_is = take_put_at p.length text out h; size_is = length_put_at p.length text out h })
-
 -- text after text
 pub tells_more : {p q r : Pending} {out mid after xs ys : List ℕ} → Tells p out xs q mid → Tells q mid ys r after
     → Tells p out (xs ++ ys) r after
@@ -73,6 +65,21 @@ tells_more {p} {out = out} {xs = xs} {ys = ys} f s = record {
   text_is = s.text_is ∙ ap (λ front. front ++ ys) f.text_is ∙ append_assoc (take p.length out) xs ys;
   size_is = s.size_is ∙ f.size_is;
 }
+
+pub told : (o : Collected) (text : List ℕ) → o.pending.length + length text ≤ length o.room → Told o text (collected o text)
+told o text h =
+    rw (collected_room o text h) (
+      refl,
+      record {
+        length_is = refl;
+        lost_is = refl;
+        text_is = take_put_at o.pending.length text o.room h;
+        size_is = length_put_at o.pending.length text o.room h;
+      },
+    )
+
+pub told_more : {o q r : Collected} {xs ys : List ℕ} → Told o xs q → Told q ys r → Told o (xs ++ ys) r
+told_more f s = (s.0 ∙ f.0, tells_more f.1 s.1)
 
 -- # Numbers
 

@@ -10,20 +10,15 @@ use Rattle.std.proofs.lemmas.List.{map-append, take_more}
 use Rattle.definition.proofs.Lists.{flatten_append}
 use Rattle.definition.specs.declared.Row.{Row}
 use Rattle.definition.specs.Rows.{flat, row_size}
-use Rattle.output.specs.declared.Pending.{Pending}
-use Rattle.output.specs.Output.{Tells, collected, collected_in, decimal}
-use Rattle.output.proofs.Laws.{tells, tells_more, tells_none}
+use Rattle.output.specs.Output.{Collected, Told, decimal}
+use Rattle.output.proofs.Laws.{told_more, tells_none}
 use Rattle.printing.specs.Texts.{four_text, newline, numbers_text, refused_text, row_most, row_text, rows_text, space}
 
 -- # Text behind text
 
-module _ (p : Pending) (text out : List ℕ) (q : Pending) (after : List ℕ) (e : (q ≡ collected p text out) × (after ≡ collected_in p text out)) where
-  pub put_tells : p.length + length text ≤ length out → Tells p out text q after
-  put_tells h = rw (e.0, e.1) (tells p text out h)
-
 -- the same text, read otherwise
-pub tells_same : {p q : Pending} {out after xs ys : List ℕ} → xs ≡ ys → Tells p out xs q after → Tells p out ys q after
-tells_same {p} {q} {out} {after} e t = rw e at t
+pub told_same : {o r : Collected} {xs ys : List ℕ} → xs ≡ ys → Told o xs r → Told o ys r
+told_same {o} {r} e t = rw e at t
 
 -- # Four numbers on a line
 
@@ -58,17 +53,17 @@ rows_front count i table rows e h done =
     ap (λ rs. flatten (map numbers_text rs)) (take_all i (take count rows) done ∙ rw e (first_of row_size count (length table / row_size) table h))
 
 -- rows are printed
-pub record RowsTold (p : Pending) (out : List ℕ) (rows : List (List ℕ)) (told : Pending) (after : List ℕ) : Type 0 where
-  pub tells : Tells p out (flatten (map numbers_text rows)) told after
-  pub most : told.length ≤ p.length + row_most * length rows
+pub record RowsTold (o : Collected) (rows : List (List ℕ)) (r : Collected) : Type 0 where
+  pub told : Told o (flatten (map numbers_text rows)) r
+  pub most : r.pending.length ≤ o.pending.length + row_most * length rows
 
-pub told_none : (p : Pending) (out : List ℕ) → RowsTold p out [] p out
+pub told_none : (o : Collected) → RowsTold o [] o
 unfolding flatten
-told_none p out = record { tells = tells_none p out; most = omega arith }
+told_none o = record { told = (refl, tells_none o.pending o.room); most = omega arith }
 
 -- one row more
-pub told_next : {p q r : Pending} {out mid after : List ℕ} (rows : List (List ℕ)) (i : ℕ) → i < length rows → RowsTold p out (take i rows) q mid
-    → Tells q mid (numbers_text (get_or rows i [])) r after → r.length ≤ q.length + row_most → RowsTold p out (take (i + 1) rows) r after
+pub told_next : {o q r : Collected} (rows : List (List ℕ)) (i : ℕ) → i < length rows → RowsTold o (take i rows) q
+    → Told q (numbers_text (get_or rows i [])) r → r.pending.length ≤ q.pending.length + row_most → RowsTold o (take (i + 1) rows) r
 unfolding flatten
 told_next rows i h f t most =
     let before = take i rows in
@@ -77,6 +72,6 @@ told_next rows i h f t most =
     let text : flatten (map numbers_text (take i rows)) ++ numbers_text (get_or rows i []) ≡ flatten (map numbers_text (take (i + 1) rows)) =
     sym (ap (λ rs. flatten (map numbers_text rs)) next ∙ ap flatten (map-append numbers_text before here) ∙ flatten_append (map numbers_text before) (map numbers_text here) ∙ ap (λ t. flatten (map numbers_text before) ++ t) (append-nil (numbers_text (get_or rows i [])))) in
     record {
-      tells = tells_same text (tells_more f.tells t);
+      told = told_same text (told_more f.told t);
       most = omega (arith, f.most, ap length next, length-append (take i rows) (get_or rows i [] ∷ []));
     }

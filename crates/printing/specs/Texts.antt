@@ -2,11 +2,10 @@
 use Rattle.std.specs.Prelude.{ℕ}
 use mathlib.Core.List.{List, [], ◌∷◌, ◌++◌, flatten, map}
 use lib.ListN.{get_or}
-use Rattle.std.specs.Simd.{first_chunks}
 use Rattle.definition.specs.declared.End.{End}
 use Rattle.definition.specs.declared.Row.{Row}
 use Rattle.definition.specs.Numbers.{cause_number}
-use Rattle.definition.specs.Rows.{kind_number, row_size}
+use Rattle.definition.specs.Rows.{kind_number, rows_in}
 use Rattle.output.specs.Output.{decimal}
 
 abbrev pub newline : ℕ
@@ -30,7 +29,7 @@ numbers_text ns = four_text (get_or ns 0 0) (get_or ns 3 0) (get_or ns 1 0) (get
 
 -- the first rows of a table, whatever its numbers are
 unfoldable pub rows_text : ℕ → List ℕ → List ℕ
-rows_text count table = flatten (map numbers_text (first_chunks row_size count table))
+rows_text count table = flatten (map numbers_text (rows_in count table))
 
 -- "then bytes, lines, matches, cause", after `end`
 abbrev pub end_text : End → List ℕ

@@ -4,7 +4,6 @@ use Rattle.std.proofs.Common.{◌≡◌, ℕ, ◌+◌, ◌-◌, ◌*◌, ◌<◌
 use mathlib.Core.Bool.{and-false, and-eq-true_iff}
 use native.Mathlib.Decide.{dec_le}
 use borrow.Author.Tests.{eqb-false}
-use Rattle.definition.specs.declared.Row.{Row}
 use Rattle.definition.specs.declared.Going.TheVariants.{On}
 use Rattle.definition.specs.Bounds.{max_input}
 use Rattle.definition.specs.Text.{first_place, text}
@@ -106,7 +105,7 @@ pub busy : (s : Session) (piece : List ℕ) → 0 < length piece → s.places.in
 unfolding idle
 busy s piece h e g = rw (ne_eqb (length piece) 0 (λ z. omega arith), ap is_open e, ap is_on g)
 
-module _ (input : List ℕ) (answers : ℕ → Bool) (s : Session) (w rest : List ℕ) (count : ℕ) (given : List Row)
+module _ (input : List ℕ) (answers : ℕ → Bool) (s : Session) (w rest : List ℕ) (count : ℕ) (given : List (List ℕ))
     (i : Inv input answers s w rest count given) where
   -- a piece with bytes that no Quit byte leads has a byte of the text
   pub more_text : (k : ℕ) → 0 < length (take k rest) → quit_front s (take k rest) ≡ false

@@ -4,7 +4,6 @@ use Rattle.std.proofs.Common.{◌≡◌, ℕ, ◌+◌, ◌≤◌, Bool, true, fa
 use mathlib.Core.Bool.{false≢true}
 use mathlib.Core.List.{flatten}
 use native.Mathlib.Decide.{dec_lt}
-use Rattle.definition.specs.declared.Row.{Row}
 use Rattle.definition.specs.declared.Binary.{Binary}
 use Rattle.definition.specs.declared.Binary.TheVariants.{Ignore, Quit, Convert}
 use Rattle.definition.specs.declared.Cause.{Cause}
@@ -141,7 +140,7 @@ pub none_of_length : (xs : List ℕ) → length xs ≤ 0 → xs ≡ []
 none_of_length [] h = refl
 none_of_length (x ∷ xs) h = absurd (omega arith)
 
-module _ (input : List ℕ) (answers : ℕ → Bool) (s : Session) (w rest : List ℕ) (count : ℕ) (given : List Row)
+module _ (input : List ℕ) (answers : ℕ → Bool) (s : Session) (w rest : List ℕ) (count : ℕ) (given : List (List ℕ))
     (i : Inv input answers s w rest count given) where
   gone_le : s.walk.bytes ≤ length i.past
   gone_le = omega (arith, i.uncut, ap length i.text_is, length-append (flatten i.gone) (unanswered s w), i.bytes_is)

@@ -1,8 +1,8 @@
 -- The invariant across an answer.
 use Rattle.std.proofs.Common.{◌≡◌, ℕ, ◌+◌, ◌-◌, ◌<◌, ◌≤◌, Bool, true, false, cond, ◌⊎◌, List, [], ◌∷◌, ◌++◌, length, take, drop, sym, refl, ap, ◌∙◌, subst, ap₂, inl, inr, ⊎_elim, append_assoc, append-nil, arith, length-append, length-drop, take-append-drop, length-take, take-take}
 use mathlib.Core.Bool.{false≢true}
-use mathlib.Core.List.{cons≢nil, flatten, head-eq_of_cons-eq, tail-eq_of_cons-eq}
-use Rattle.definition.specs.declared.Row.{Row}
+use Rattle.std.proofs.lemmas.List.{map-append}
+use mathlib.Core.List.{cons≢nil, flatten, head-eq_of_cons-eq, map, tail-eq_of_cons-eq}
 use Rattle.definition.specs.declared.Fate.{Fate}
 use Rattle.definition.specs.declared.Fate.TheVariants.{Match, After, Other, NoRow}
 use Rattle.definition.specs.declared.Binary.{Binary}
@@ -10,6 +10,7 @@ use Rattle.definition.specs.declared.Binary.TheVariants.{Ignore, Quit, Convert}
 use Rattle.definition.specs.declared.Going.TheVariants.{On}
 use Rattle.definition.specs.declared.Settings.{Settings}
 use Rattle.definition.specs.Definition.{bytes_of, last_of, kept_lines}
+use Rattle.definition.specs.Rows.{flat}
 use Rattle.definition.specs.State.{State, fate_of, next_line, begun, rows, state, state_next, step_rows, step_state, trim}
 use Rattle.definition.specs.Text.{first_place, lines, part, replaced, text, text_under, up_to}
 use Rattle.definition.proofs.Lists.{flatten_append}
@@ -119,7 +120,7 @@ module _ (s : Session) (w : List ℕ) (a : Agree s) (size : length w ≡ s.place
 
 -- # The invariant
 
-module _ (input : List ℕ) (answers : ℕ → Bool) (s : Session) (w rest : List ℕ) (count : ℕ) (given : List Row)
+module _ (input : List ℕ) (answers : ℕ → Bool) (s : Session) (w rest : List ℕ) (count : ℕ) (given : List (List ℕ))
     (i : Inv input answers s w rest count given) where
   pub going_is : s.walk.going ≡ (state s.walk.settings answers (begun s.walk.settings) i.gone).going
   unfolding trim shown state_since since_lines
@@ -183,14 +184,16 @@ module _ (input : List ℕ) (answers : ℕ → Bool) (s : Session) (w rest : Lis
         ∙ ap (λ (t : State). step_rows On c t len hit) (sym i.state_is)
         ∙ trim_step_rows On c (shown s w) len hit
 
-    rows_now : rows s.walk.settings answers (begun s.walk.settings) (i.gone ++ (line s w ∷ []))
-        ≡ given ++ answer_rows s w (answers (count + 1))
+    rows_now : map flat (rows s.walk.settings answers (begun s.walk.settings) (i.gone ++ (line s w ∷ [])))
+        ≡ given ++ map flat (answer_rows s w (answers (count + 1)))
     unfolding rows
     rows_now =
         let c = s.walk.settings in
         let b = state c answers (begun c) i.gone in
-        rows_append c answers (begun c) i.gone (line s w ∷ [])
-        ∙ ap₂ (λ (xs ys : List Row). xs ++ ys) (sym i.rows_are) (append-nil (step_rows b.going c b (length (line s w)) (answers (b.lines + 1))) ∙ rows_step)
+        ap (map flat) (rows_append c answers (begun c) i.gone (line s w ∷ []))
+        ∙ map-append flat (rows c answers (begun c) i.gone) _
+        ∙ ap₂ (λ (xs ys : List (List ℕ)). xs ++ ys) (sym i.rows_are)
+        (ap (map flat) (append-nil (step_rows b.going c b (length (line s w)) (answers (b.lines + 1))) ∙ rows_step))
 
     shown_now : trim s.walk.settings (shown (answer_session s w (answers (count + 1))) w)
         ≡ trim s.walk.settings (state s.walk.settings answers (begun s.walk.settings) (i.gone ++ (line s w ∷ [])))
@@ -271,7 +274,7 @@ module _ (input : List ℕ) (answers : ℕ → Bool) (s : Session) (w rest : Lis
         ∙ ap (λ xs. i.gone ++ xs) lines_now
         ∙ sym (append_assoc i.gone (line s w ∷ []) (lines s.walk.settings.terminator (drop (line_length s w) (unanswered s w) ++ text s.walk.settings rest))))
 
-    pub inv_given : Inv input answers (answer_session s w (answers (count + 1))) w rest (count + 1) (given ++ answer_rows s w (answers (count + 1)))
+    pub inv_given : Inv input answers (answer_session s w (answers (count + 1))) w rest (count + 1) (given ++ map flat (answer_rows s w (answers (count + 1))))
     unfolding answer_session places_next walk_next state_next shown state_since since_lines
     inv_given =
         record {

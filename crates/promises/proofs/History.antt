@@ -3,7 +3,7 @@ use Rattle.definition.specs.declared.Refusal.{Refusal}
 use Rattle.std.specs.Prelude.{None, Ok, true, Err, Result, Option, Some}
 use Rattle.std.proofs.Common.{◌≡◌, ℕ, ◌+◌, ◌*◌, ◌≤◌, Bool, true, false, cond, not, eqb, List, [], ◌∷◌, ◌++◌, length, take, drop, sym, refl, ap, ◌∙◌, subst, arith, le-ltb}
 use mathlib.Core.Bool.{and-false}
-use mathlib.Core.List.{cons≢nil, flatten}
+use mathlib.Core.List.{cons≢nil, flatten, map}
 use Rattle.definition.specs.declared.Refusal.TheVariants.{Unsound}
 use Rattle.definition.specs.declared.Row.{Row}
 use Rattle.definition.specs.declared.Fate.{Fate}
@@ -14,7 +14,7 @@ use Rattle.definition.specs.declared.Going.{Going}
 use Rattle.definition.specs.declared.Going.TheVariants.{On, LimitMet, NonmatchMet}
 use Rattle.definition.specs.declared.Settings.{Settings}
 use Rattle.definition.specs.Definition.{last_of, kept_lines}
-use Rattle.definition.specs.Rows.{row_size, rows_in}
+use Rattle.definition.specs.Rows.{flat, row_size, rows_in}
 use Rattle.definition.specs.State.{State, fate_of, begun, rows, state, trim}
 use Rattle.definition.specs.Text.{first_place, lines, up_to}
 use Rattle.definition.proofs.Kept.{before≤kept, since_counted, step_rows_most}
@@ -87,7 +87,7 @@ pub answer_rows_most : (s : Session) (w : List ℕ) (hit : Bool) → length (ans
 unfolding answer_rows rows_since shown
 answer_rows_most s w hit = step_rows_most On s.walk.settings (shown s w) _ hit
 
-rows_in_table : (rs : List Row) (table : List ℕ) → rows_in (length rs) (put_rows rs table) ≡ rs
+rows_in_table : (rs : List Row) (table : List ℕ) → rows_in (length rs) (put_rows rs table) ≡ map flat rs
 unfolding put_rows
 rows_in_table rs table = rows_in_put rs (drop (row_size * length rs) table)
 
@@ -100,7 +100,7 @@ waiting_line s w e = go (sound s (length w)) (waits s w) (sym (waiting_cases s w
     go true false e = let z : ◌≡◌ {A = ℕ} 0 1 = cc in absurd (omega arith)
     go false v e = let z : ◌≡◌ {A = ℕ} 0 1 = cc in absurd (omega arith)
 
-module _ (input : List ℕ) (answers : ℕ → Bool) (s : Session) (w rest : List ℕ) (count : ℕ) (given : List Row)
+module _ (input : List ℕ) (answers : ℕ → Bool) (s : Session) (w rest : List ℕ) (count : ℕ) (given : List (List ℕ))
     (i : Inv input answers s w rest count given) where
   -- # OfferDecision
 

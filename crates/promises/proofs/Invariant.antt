@@ -1,9 +1,9 @@
 -- What holds at every moment of a run: the lines gone through, the raw bytes taken, and how session and window show them.
 use Rattle.std.proofs.Common.{◌≡◌, ℕ, ◌-◌, ◌<◌, Bool, true, List, [], ◌++◌, length, ap, arith, length-append, eq-eqb}
-use mathlib.Core.List.{flatten}
-use Rattle.definition.specs.declared.Row.{Row}
+use mathlib.Core.List.{flatten, map}
 use Rattle.definition.specs.declared.Settings.{Settings}
 use Rattle.definition.specs.Definition.{quit_met}
+use Rattle.definition.specs.Rows.{flat}
 use Rattle.definition.specs.State.{begun, rows, state, trim}
 use Rattle.definition.specs.Text.{lines, part, text}
 use Rattle.definition.proofs.Terminator.{Whole}
@@ -24,7 +24,7 @@ InputNow c Open rest = Unit {0}
 InputNow c Ended rest = rest ≡ []
 InputNow c QuitFound rest = (quit_met c.binary rest ≡ true) × (text c rest ≡ [])
 
-pub record Inv (input : List ℕ) (answers : ℕ → Bool) (s : Session) (w rest : List ℕ) (count : ℕ) (given : List Row) : Type 0 where
+pub record Inv (input : List ℕ) (answers : ℕ → Bool) (s : Session) (w rest : List ℕ) (count : ℕ) (given : List (List ℕ)) : Type 0 where
   -- the raw bytes taken, and the lines gone through
   pub past : List ℕ
   pub gone : List (List ℕ)
@@ -37,7 +37,7 @@ pub record Inv (input : List ℕ) (answers : ℕ → Bool) (s : Session) (w rest
   pub lines_is : s.walk.lines ≡ length gone
   pub count_is : count ≡ length gone
   pub state_is : trim s.walk.settings (shown s w) ≡ trim s.walk.settings (state s.walk.settings answers (begun s.walk.settings) gone)
-  pub rows_are : given ≡ rows s.walk.settings answers (begun s.walk.settings) gone
+  pub rows_are : given ≡ map flat (rows s.walk.settings answers (begun s.walk.settings) gone)
   pub lines_are : lines s.walk.settings.terminator (text s.walk.settings input)
       ≡ gone ++ lines s.walk.settings.terminator (unanswered s w ++ text s.walk.settings rest)
   pub whole : 0 < length (unanswered s w ++ text s.walk.settings rest) → Whole s.walk.settings.terminator (part s.places.floor s.places.next w)
@@ -49,7 +49,7 @@ pub unanswered_length : (s : Session) (w : List ℕ) → Agree s → length w �
 unfolding unanswered
 unanswered_length s w a size = part_length s.places.next s.places.end w a.places.next_end (omega (arith, a, size))
 
-module _ (input : List ℕ) (answers : ℕ → Bool) (s : Session) (w rest : List ℕ) (count : ℕ) (given : List Row)
+module _ (input : List ℕ) (answers : ℕ → Bool) (s : Session) (w rest : List ℕ) (count : ℕ) (given : List (List ℕ))
     (i : Inv input answers s w rest count given) where
   pub taken_is : taken_bytes s ≡ length i.past
   unfolding taken_bytes

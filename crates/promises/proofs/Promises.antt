@@ -1,12 +1,13 @@
 -- The promises of specs/Promises.antt, from the invariant.
 use Rattle.std.specs.Prelude.{Ok}
 use Rattle.std.proofs.Common.{◌≡◌, ℕ, ◌+◌, ◌-◌, ◌≤◌, Bool, true, ◌⊎◌, List, ◌∷◌, ◌++◌, length, take, drop, sym, ap, ◌∙◌, subst, inl, inr, ⊎_elim, append-nil, arith, drop_at}
-use mathlib.Core.List.{flatten}
+use Rattle.std.proofs.lemmas.List.{map-append}
+use mathlib.Core.List.{flatten, map}
 use native.Mathlib.Decide.{dec_le}
-use Rattle.definition.specs.declared.Row.{Row}
 use Rattle.definition.specs.declared.Settings.{Settings}
 use Rattle.definition.specs.Definition.{end_of, end_record, gone_lines, rows_of}
 use Rattle.definition.specs.Laws.{final_state}
+use Rattle.definition.specs.Rows.{flat}
 use Rattle.definition.specs.State.{State, begun, rows, state, trim}
 use Rattle.definition.specs.Text.{handed, lines, text}
 use Rattle.definition.proofs.Kept.{rows_append}
@@ -34,26 +35,27 @@ pub shown_handed : (s : Session) (w : List ℕ) → waiting s w ≡ Ok true → 
 unfolding shown_line shown_ahead waits line line_length
 shown_handed s w e = rw ((waiting_line s w e).0, (waiting_line s w e).1)
 
-module _ (input : List ℕ) (answers : ℕ → Bool) (s : Session) (w rest : List ℕ) (count : ℕ) (given : List Row)
+module _ (input : List ℕ) (answers : ℕ → Bool) (s : Session) (w rest : List ℕ) (count : ℕ) (given : List (List ℕ))
     (i : Inv input answers s w rest count given) where
   -- the definition's rows are those given and those of the lines still to come
-  rows_all : rows_of s.walk.settings input answers
-      ≡ given ++ rows s.walk.settings answers (state s.walk.settings answers (begun s.walk.settings) i.gone) (lines s.walk.settings.terminator (unanswered s w ++ text s.walk.settings rest))
+  rows_all : map flat (rows_of s.walk.settings input answers)
+      ≡ given
+      ++ map flat (rows s.walk.settings answers (state s.walk.settings answers (begun s.walk.settings) i.gone) (lines s.walk.settings.terminator (unanswered s w ++ text s.walk.settings rest)))
   rows_all =
       let c = s.walk.settings in
       let later = lines c.terminator (unanswered s w ++ text c rest) in
-      same_rows c input answers
-      ∙ ap (rows c answers (begun c)) i.lines_are
-      ∙ rows_append c answers (begun c) i.gone later
-      ∙ ap (λ (xs : List Row). xs ++ rows c answers (state c answers (begun c) i.gone) later) (sym i.rows_are)
+      let after = rows c answers (state c answers (begun c) i.gone) later in
+      ap (map flat) (same_rows c input answers ∙ ap (rows c answers (begun c)) i.lines_are ∙ rows_append c answers (begun c) i.gone later)
+      ∙ map-append flat (rows c answers (begun c) i.gone) after
+      ∙ ap (λ (xs : List (List ℕ)). xs ++ map flat after) (sym i.rows_are)
 
-  pub finished_inv : (recorded s).refusal ≡ 0 → (given ≡ rows_of s.walk.settings input answers) × ((recorded s).end ≡ end_of s.walk.settings input answers)
+  pub finished_inv : (recorded s).refusal ≡ 0 → (given ≡ map flat (rows_of s.walk.settings input answers)) × ((recorded s).end ≡ end_of s.walk.settings input answers)
   unfolding final_state trim shown state_since since_lines
   finished_inv e =
       let c = s.walk.settings in
       let d = served_done s e in
       let record-at : State → _ = λ t. end_record c input t.bytes t.lines t.matches t.going in (
-        sym (rows_all ∙ ap (λ xs. given ++ xs) (rows_done input answers s w rest count given i d) ∙ append-nil given),
+        sym (rows_all ∙ ap (λ xs. given ++ map flat xs) (rows_done input answers s w rest count given i d) ∙ append-nil given),
         Refusals.record_served s e
             ∙ record_same input answers s w rest count given i d
             ∙ ap (λ (t : State). end_record c input t.bytes t.lines t.matches t.going) i.state_is
@@ -78,13 +80,13 @@ module _ (input : List ℕ) (answers : ℕ → Bool) (s : Session) (w rest : Lis
 pub finished : Finished
 finished c input answers a r e =
     let i = inv_run c input answers a r in
-    subst (λ x. (a.rows ≡ rows_of x input answers) × ((recorded a.session).end ≡ end_of x input answers)) (run_settings c input answers a r)
+    subst (λ x. (a.rows ≡ map flat (rows_of x input answers)) × ((recorded a.session).end ≡ end_of x input answers)) (run_settings c input answers a r)
     (finished_inv input answers a.session a.window a.rest a.count a.rows i e)
 
 pub beginning : Beginning
 beginning c input answers a r =
     let i = inv_run c input answers a r in
-    subst (λ x. Begins a.rows (rows_of x input answers)) (run_settings c input answers a r)
+    subst (λ x. Begins a.rows (map flat (rows_of x input answers))) (run_settings c input answers a r)
     (_, sym (rows_all input answers a.session a.window a.rest a.count a.rows i))
 
 pub prompt : Prompt
@@ -94,9 +96,9 @@ prompt c input answers a r =
     (λ x. (before later : List (List ℕ))
     × (lines x.terminator (text x input) ≡ before ++ later)
     × (length before ≡ a.count)
-    × (a.rows ≡ (gone_lines x answers before).rows))
+    × (a.rows ≡ map flat (gone_lines x answers before).rows))
     (run_settings c input answers a r)
-    (i.gone, _, i.lines_are, sym i.count_is, i.rows_are ∙ sym (same_lines a.session.walk.settings answers i.gone).0)
+    (i.gone, _, i.lines_are, sym i.count_is, i.rows_are ∙ ap (map flat) (sym (same_lines a.session.walk.settings answers i.gone).0))
 
 pub cut : Cut
 cut c input answers a b r q e f =
@@ -121,7 +123,7 @@ line_after before l later n e =
     let m : n + 1 - 1 ≡ n = omega arith in
     rw (m, drop_at before (l ∷ later) n e) (append-nil l)
 
-module _ (matcher : List ℕ → Bool) (input : List ℕ) (s : Session) (w rest : List ℕ) (count : ℕ) (given : List Row)
+module _ (matcher : List ℕ → Bool) (input : List ℕ) (s : Session) (w rest : List ℕ) (count : ℕ) (given : List (List ℕ))
     (i : Inv input (answers_of matcher s.walk.settings input) s w rest count given) where
   pub asked_inv : waiting s w ≡ Ok true → answers_of matcher s.walk.settings input (count + 1) ≡ matcher (shown_line s w)
   unfolding answers_of
@@ -171,10 +173,10 @@ module _ (c : Settings) (input : List ℕ) (answers : ℕ → Bool) (a : At) (r 
 
 -- the facts of the room rule, for the settings that a run was opened with
 module _ (c : Settings) (input : List ℕ) (answers : ℕ → Bool) (a : At) (r : Run c input answers a) where
-  run_too_long : NoRoom a → (t : TooLong c input answers (length a.window) a.count) × (a.rows ≡ (gone_lines c answers t.before).rows)
+  run_too_long : NoRoom a → (t : TooLong c input answers (length a.window) a.count) × (a.rows ≡ map flat (gone_lines c answers t.before).rows)
   run_too_long n =
       let i = inv_run c input answers a r in
-      subst (λ x. (t : TooLong x input answers (length a.window) a.count) × (a.rows ≡ (gone_lines x answers t.before).rows))
+      subst (λ x. (t : TooLong x input answers (length a.window) a.count) × (a.rows ≡ map flat (gone_lines x answers t.before).rows))
       (run_settings c input answers a r)
       (too_long input answers a.session a.window a.rest a.count a.rows i n.0 n.1)
 
@@ -241,7 +243,7 @@ served c input answers a r h =
     }
 
 -- of two beginnings of one list one is a beginning of the other
-begins_both : (xs ys zs : List Row) → Begins xs zs → Begins ys zs → Begins xs ys ⊎ Begins ys xs
+begins_both : (xs ys zs : List (List ℕ)) → Begins xs zs → Begins ys zs → Begins xs ys ⊎ Begins ys xs
 begins_both xs ys zs p q = elim (dec_le (length xs) (length ys)) [
   | yes k ↦
       let m = cut_shorter xs p.0 ys q.0 (p.1 ∙ sym q.1) k in
@@ -253,7 +255,7 @@ begins_both xs ys zs p q = elim (dec_le (length xs) (length ys)) [
 
 pub memory : Memory
 memory c input answers a b r q =
-    (begins_both a.rows b.rows (rows_of c input answers) (beginning c input answers a r) (beginning c input answers b q), longer)
+    (begins_both a.rows b.rows (map flat (rows_of c input answers)) (beginning c input answers a r) (beginning c input answers b q), longer)
   where
     longer : Within c input → Ends a → length a.window ≤ length b.window
         → (x : At) × Steps answers b x × Ends x × (x.rows ≡ a.rows) × ((recorded x.session).end ≡ (recorded a.session).end)

@@ -1,11 +1,11 @@
 -- The room rule: where a run is refused by 3 its next line does not fit, and no run gets past such a line.
 use Rattle.std.proofs.Common.{◌≡◌, ℕ, ◌+◌, ◌-◌, ◌<◌, ◌≤◌, Bool, false, not, ◌&&◌, ◌||◌, ltb, List, [], ◌∷◌, ◌++◌, length, take, drop, sym, refl, ap, ◌∙◌, subst, ap₂, append-nil, arith, length-append, length-take, ltb-false}
-use mathlib.Core.List.{head-eq_of_cons-eq, tail-eq_of_cons-eq}
+use mathlib.Core.List.{head-eq_of_cons-eq, map, tail-eq_of_cons-eq}
 use native.Mathlib.Decide.{dec_lt}
-use Rattle.definition.specs.declared.Row.{Row}
 use Rattle.definition.specs.declared.Going.TheVariants.{On}
 use Rattle.definition.specs.declared.Settings.{Settings}
 use Rattle.definition.specs.Definition.{gone_lines}
+use Rattle.definition.specs.Rows.{flat}
 use Rattle.definition.specs.State.{State, begun, state}
 use Rattle.definition.specs.Text.{first_length, first_place, lines, text}
 use Rattle.definition.proofs.Kept.{state_append, state_stopped}
@@ -68,7 +68,7 @@ over : (s : Session) (w : List ℕ) → s.places.window ≤ held_bytes s w → (
 unfolding held_bytes
 over s w h n kept len e k l = omega arith
 
-module _ (input : List ℕ) (answers : ℕ → Bool) (s : Session) (w rest : List ℕ) (count : ℕ) (given : List Row)
+module _ (input : List ℕ) (answers : ℕ → Bool) (s : Session) (w rest : List ℕ) (count : ℕ) (given : List (List ℕ))
     (i : Inv input answers s w rest count given) where
   -- while no line waits and the input is open the bytes held hold no terminator
   pub no_terminator : waits s w ≡ false → s.walk.going ≡ On → length (unanswered s w) ≤ first_place s.walk.settings.terminator (unanswered s w)
@@ -80,7 +80,7 @@ module _ (input : List ℕ) (answers : ℕ → Bool) (s : Session) (w rest : Lis
       ltb-false p (length u) (or_false (ltb p (length u)) (not (is_open s.places.input) && ltb 0 (length u)) e).0
 
   pub too_long : (k : ℕ) → (offered s w (take k rest)).refusal ≡ 3
-      → (t : TooLong s.walk.settings input answers (length w) count) × (given ≡ (gone_lines s.walk.settings answers t.before).rows)
+      → (t : TooLong s.walk.settings input answers (length w) count) × (given ≡ map flat (gone_lines s.walk.settings answers t.before).rows)
   unfolding offer_result offered
   too_long k e =
       let c = s.walk.settings in
@@ -105,7 +105,7 @@ module _ (input : List ℕ) (answers : ℕ → Bool) (s : Session) (w rest : Lis
           fitted = subst (λ m. Fitted c answers m i.gone) (sym i.window_is) i.fitted;
           exceeds = over s w f.3 (length w) (kept_before c answers i.gone) (length (take n (u ++ v))) i.window_is kept (omega (arith, longer, size));
         },
-        i.rows_are ∙ sym (same_lines c answers i.gone).0,
+        i.rows_are ∙ ap (map flat) (sym (same_lines c answers i.gone).0),
       )
 
   -- # No run gets past

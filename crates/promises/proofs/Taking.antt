@@ -4,7 +4,6 @@ use Rattle.std.proofs.Common.{◌≡◌, ℕ, ◌+◌, ◌-◌, ◌<◌, ◌≤�
 use mathlib.Core.Bool.{and-eq-true_iff}
 use mathlib.Core.List.{flatten}
 use native.Mathlib.Decide.{dec_lt}
-use Rattle.definition.specs.declared.Row.{Row}
 use Rattle.definition.specs.declared.Binary.{Binary}
 use Rattle.definition.specs.declared.Binary.TheVariants.{Ignore, Quit, Convert}
 use Rattle.definition.specs.Definition.{last_of, quit_met, kept_lines}
@@ -215,7 +214,7 @@ input_after s n k rest true e =
     quit_next s.walk.settings.binary s.walk.settings.terminator n k rest (eqb-true n (quit_place s.walk.settings.binary piece) both.0) (ltb-true n (length piece) both.1)
 input_after s n k rest false e = tt
 
-pub inv_taken : (input : List ℕ) (answers : ℕ → Bool) (s : Session) (w rest : List ℕ) (count : ℕ) (given : List Row) (k n : ℕ) (quit : Bool)
+pub inv_taken : (input : List ℕ) (answers : ℕ → Bool) (s : Session) (w rest : List ℕ) (count : ℕ) (given : List (List ℕ)) (k n : ℕ) (quit : Bool)
     → Inv input answers s w rest count given → Room s w (take k rest) n
     → (eqb n (before_quit s (take k rest)) && ltb n (length (take k rest))) ≡ quit
     → Inv input answers (stored s w (take k rest) n quit) (stored_window s w (take k rest) n) (drop n rest) count given

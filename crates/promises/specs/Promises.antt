@@ -1,13 +1,12 @@
 -- The promises to the caller of demand 3, over every run. Each is a statement; its proof, under the same name in small letters
 -- (`handed_line` for Handed), stands in proofs/Promises.antt.
-use Rattle.std.specs.Prelude.{◌≡◌, ℕ, ◌+◌, ◌-◌, ◌*◌, ◌<◌, ◌≤◌, Bool, ◌⊎◌, List, ◌∷◌, ◌++◌, length, take, drop, Ok, true}
+use Rattle.std.specs.Prelude.{◌≡◌, ℕ, ◌+◌, ◌-◌, ◌*◌, ◌<◌, ◌≤◌, Bool, ◌⊎◌, List, ◌∷◌, ◌++◌, length, map, take, drop, Ok, true}
 use mathlib.Core.List.{flatten}
-use Rattle.definition.specs.declared.Row.{Row}
 use Rattle.definition.specs.declared.Going.TheVariants.{On}
 use Rattle.definition.specs.declared.Settings.{Settings}
 use Rattle.definition.specs.Bounds.{max_input}
 use Rattle.definition.specs.Definition.{bytes_of, end_of, gone_lines, kept_part, rows_of}
-use Rattle.definition.specs.Rows.{row_size}
+use Rattle.definition.specs.Rows.{flat, row_size}
 use Rattle.definition.specs.Text.{handed, lines, text}
 use Rattle.session.specs.Calls.{answered, offered, recorded, shown_line, told, waiting, waiting_refusal}
 use Rattle.session.specs.Held.{unanswered}
@@ -23,8 +22,8 @@ abbrev pub NoRoom : At → Type 0
 NoRoom a = (k : ℕ) × ((offered a.session a.window (take k a.rest)).refusal ≡ 3)
 
 -- one list of rows is a beginning of another
-abbrev pub Begins : List Row → List Row → Type 0
-Begins xs ys = (more : List Row) × (xs ++ more ≡ ys)
+abbrev pub Begins : List (List ℕ) → List (List ℕ) → Type 0
+Begins xs ys = (more : List (List ℕ)) × (xs ++ more ≡ ys)
 
 -- "within 01's size" is read of the text (docs/DECISIONS.md 12)
 abbrev pub Within : Settings → List ℕ → Type 0
@@ -35,12 +34,12 @@ Within c input = length (text c input) ≤ max_input
 abbrev pub Finished : Type 0
 Finished =
     (c : Settings) (input : List ℕ) (answers : ℕ → Bool) (a : At) → Run c input answers a → Ends a
-    → (a.rows ≡ rows_of c input answers) × ((recorded a.session).end ≡ end_of c input answers)
+    → (a.rows ≡ map flat (rows_of c input answers)) × ((recorded a.session).end ≡ end_of c input answers)
 
 -- Beginning. Demand 3: "the rows are the definition's, or a beginning of them": at every moment the rows given are a beginning of the definition's.
 abbrev pub Beginning : Type 0
 Beginning =
-    (c : Settings) (input : List ℕ) (answers : ℕ → Bool) (a : At) → Run c input answers a → Begins a.rows (rows_of c input answers)
+    (c : Settings) (input : List ℕ) (answers : ℕ → Bool) (a : At) → Run c input answers a → Begins a.rows (map flat (rows_of c input answers))
 
 -- Prompt. "rows are fixed per answer": at every moment the rows given are the definition's rows of the lines answered so far, no more
 -- and no fewer.
@@ -50,7 +49,7 @@ Prompt =
     → (before later : List (List ℕ))
     × (lines c.terminator (text c input) ≡ before ++ later)
     × (length before ≡ a.count)
-    × (a.rows ≡ (gone_lines c answers before).rows)
+    × (a.rows ≡ map flat (gone_lines c answers before).rows)
 
 -- Cut. Demand 3: "However the input is cut, and whatever the window": two finished runs of one input, settings and answers gave the same rows
 -- and the same end record.
@@ -132,7 +131,7 @@ pub record Exactly (c : Settings) (input : List ℕ) (answers : ℕ → Bool) (a
   -- fitted, and the rows given by then are those of the lines before it.
   pub only :
       NoRoom a
-      → (t : TooLong c input answers (length a.window) a.count) × (a.rows ≡ (gone_lines c answers t.before).rows)
+      → (t : TooLong c input answers (length a.window) a.count) × (a.rows ≡ map flat (gone_lines c answers t.before).rows)
   -- Where there is such a line, no run gets past it, ..
   pub never_past : (count : ℕ) → TooLong c input answers (length a.window) count → a.count ≤ count
   -- .. none is finished, ..

@@ -1,6 +1,5 @@
 -- Runs: everything that the caller of demand 3 may do, as a type of traces.
 use Rattle.std.specs.Prelude.{◌≡◌, ℕ, ◌+◌, ◌*◌, ◌≤◌, Bool, List, [], ◌++◌, length, take, drop, ◌≢◌, Ok, true}
-use Rattle.definition.specs.declared.Row.{Row}
 use Rattle.definition.specs.declared.Going.TheVariants.{On}
 use Rattle.definition.specs.declared.Settings.{Settings}
 use Rattle.definition.specs.Rows.{row_size, rows_in}
@@ -16,8 +15,8 @@ pub record At : Type 0 where
   pub rest : List ℕ
   -- how many lines were answered
   pub count : ℕ
-  -- the rows given
-  pub rows : List Row
+  -- the rows given, as the numbers that the table held
+  pub rows : List (List ℕ)
 
 abbrev pub at_start : Settings → List ℕ → List ℕ → At
 at_start c window input =

@@ -3,32 +3,28 @@
 #![tactic(auto)]
 
 use definition::Refusal;
-use output::Pending;
-use replay_calls::{Called, Script};
+use output::Output;
+use replay_calls::Called;
 use replay_words::{Command, Memory};
+use searcher::Searcher;
 
 // What is said of a call.
-pub fn say(
-    called: Called,
-    command: Command,
-    pending: Pending,
-    memory: &mut Memory,
-    out: &mut [u8],
-) -> Pending {
+pub fn say(called: Called, command: Command, memory: &mut Memory, out: &mut Output) {
     let Memory { room, table, bytes } = memory;
-    let script = called.script;
+    let searcher = called.script.searcher;
+    let window = &room[..called.script.lent.min(room.len())];
     match command {
-        Command::Open(_, _) => say_refusal(called, pending, b"open", out),
-        Command::Offer(_) => say_offer(called, pending, out),
-        Command::Waits => say_waiting(script, pending, room, out),
-        Command::Line => say_line(script, pending, room, out),
-        Command::Answer(_, _) => say_answer(called, pending, table, out),
-        Command::Table(from, to) => say_table(pending, table, from, to, out),
-        Command::End => say_refusal(called, pending, b"end", out),
-        Command::Record => say_record(script, pending, out),
-        Command::Window => say_window(script, pending, room, out),
-        Command::Poke(at, count) => poke(pending, room, at, bytes, count, out),
-        Command::Lend(_) => output::put(out, pending, b"lend\n"),
+        Command::Open(_, _) => say_refusal(called.count, b"open", out),
+        Command::Offer(_) => say_offer(called.count, out),
+        Command::Waits => say_waiting(searcher, window, out),
+        Command::Line => replay_says::said_bytes(out, b"line ", searcher.line(window)),
+        Command::Answer(_, _) => say_answer(called.count, table, out),
+        Command::Table(from, to) => say_table(table, from, to, out),
+        Command::End => say_refusal(called.count, b"end", out),
+        Command::Record => say_record(searcher, out),
+        Command::Window => replay_says::said_bytes(out, b"window ", window),
+        Command::Poke(at, count) => poke(room, at, bytes, count, out),
+        Command::Lend(_) => out.put(b"lend\n"),
     }
 }
 
@@ -40,82 +36,42 @@ fn refusal_of(count: Result<usize, Refusal>) -> u64 {
     }
 }
 
-fn say_refusal(called: Called, pending: Pending, name: &[u8], out: &mut [u8]) -> Pending {
-    replay_says::said_numbers(out, pending, name, &[refusal_of(called.count)])
+fn say_refusal(count: Result<usize, Refusal>, name: &[u8], out: &mut Output) {
+    replay_says::said_numbers(out, name, &[refusal_of(count)]);
 }
 
-fn say_offer(called: Called, pending: Pending, out: &mut [u8]) -> Pending {
-    let taken = called.count.unwrap_or(0) as u64;
-    let numbers = [refusal_of(called.count), taken];
-    replay_says::said_numbers(out, pending, b"offer", &numbers)
+fn say_offer(count: Result<usize, Refusal>, out: &mut Output) {
+    let taken = count.unwrap_or(0) as u64;
+    replay_says::said_numbers(out, b"offer", &[refusal_of(count), taken]);
 }
 
-fn say_answer(called: Called, pending: Pending, table: &[u64], out: &mut [u8]) -> Pending {
-    let rows = called.count.unwrap_or(0);
-    let refusal = refusal_of(called.count);
-    replay_says::said_rows(out, pending, b"answer", refusal, table, rows)
+fn say_answer(count: Result<usize, Refusal>, table: &[u64], out: &mut Output) {
+    let rows = count.unwrap_or(0);
+    replay_says::said_rows(out, b"answer", refusal_of(count), table, rows);
 }
 
-fn say_table(
-    pending: Pending,
-    table: &[u64],
-    first: usize,
-    last: usize,
-    out: &mut [u8],
-) -> Pending {
+fn say_table(table: &[u64], first: usize, last: usize, out: &mut Output) {
     let to = last.min(table.len());
     let from = first.min(to);
-    replay_says::said_numbers(out, pending, b"table", &table[from..to])
+    replay_says::said_numbers(out, b"table", &table[from..to]);
 }
 
-fn poke(
-    pending: Pending,
-    room: &mut [u8],
-    place: usize,
-    bytes: &[u8],
-    count: usize,
-    out: &mut [u8],
-) -> Pending {
+fn poke(room: &mut [u8], place: usize, bytes: &[u8], count: usize, out: &mut Output) {
     let at = place.min(room.len());
     let size = count.min(bytes.len()).min(room.len() - at);
     room[at..at + size].copy_from_slice(&bytes[..size]);
-    output::put(out, pending, b"poke\n")
+    out.put(b"poke\n");
 }
 
-// The part of the room that is lent.
-fn window(script: Script, room: &[u8]) -> &[u8] {
-    &room[..script.lent.min(room.len())]
-}
-
-fn say_window(script: Script, pending: Pending, room: &[u8], out: &mut [u8]) -> Pending {
-    replay_says::said_bytes(out, pending, b"window ", window(script, room))
-}
-
-fn say_line(script: Script, pending: Pending, room: &[u8], out: &mut [u8]) -> Pending {
-    let line = script.searcher.line(window(script, room));
-    replay_says::said_bytes(out, pending, b"line ", line)
-}
-
-fn say_waiting(script: Script, pending: Pending, room: &[u8], out: &mut [u8]) -> Pending {
-    let waits = match script.searcher.waiting(window(script, room)) {
+fn say_waiting(searcher: Searcher, window: &[u8], out: &mut Output) {
+    let waits = match searcher.waiting(window) {
         Ok(waits) => u64::from(waits),
         Err(refusal) => u64::from(refusal),
     };
-    replay_says::said_numbers(out, pending, b"waiting", &[waits])
+    replay_says::said_numbers(out, b"waiting", &[waits]);
 }
 
-fn say_record(script: Script, pending: Pending, out: &mut [u8]) -> Pending {
-    let numbers = match script.searcher.end_record() {
-        Ok(end) => [
-            0,
-            end.bytes,
-            end.lines,
-            end.matches,
-            u64::from(end.cause),
-            u64::from(end.binary_offset.is_some()),
-            end.binary_offset.unwrap_or(0),
-        ],
-        Err(refusal) => [u64::from(refusal), 0, 0, 0, 0, 0, 0],
-    };
-    replay_says::said_numbers(out, pending, b"record", &numbers)
+fn say_record(searcher: Searcher, out: &mut Output) {
+    let numbers = ending::record_numbers(searcher.end_record());
+    replay_says::said_numbers(out, b"record", &numbers);
 }

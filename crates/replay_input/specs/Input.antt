@@ -1,5 +1,5 @@
 -- What a read did to the input, and where a line ends in it.
-use Rattle.std.specs.Prelude.{ℕ, zero, suc, ◌<◌, Bool, true, false, Option, Some, None, Result, Ok, Err}
+use Rattle.std.specs.Prelude.{ℕ, zero, suc, ◌<◌, ◌≤◌, Bool, true, false, Option, Some, None, Result, Ok, Err}
 use Rattle.streams.specs.declared.Failure.{Failure}
 
 -- whether no more will come
@@ -12,3 +12,8 @@ is_end (Err reason) = false
 abbrev pub EndsBefore : Option ℕ → ℕ → Type 0
 EndsBefore (Some end) to = end < to
 EndsBefore None to = Unit
+
+-- a line that was found ends no earlier than it starts
+abbrev pub EndsBehind : Option ℕ → ℕ → Type 0
+EndsBehind (Some end) from = from ≤ end
+EndsBehind None from = Unit

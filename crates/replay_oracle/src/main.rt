@@ -1,5 +1,5 @@
 // The sample of the Rust's answers: a script of calls with what they give, made by compare/sample, run by the library that
-// `replay` runs.
+// `replay` runs: a program of its own, since its input and output lie beside it.
 #![tactic(auto)]
 
 use streams::Streams;

@@ -20,20 +20,15 @@
 //
 // A command is done in two parts: its call, which may change the search, and what is said of it. A line of another form
 // ends the script, and whoever counts the lines says that it is bad.
-use output::Pending;
+use output::Output;
 use replay_calls::Script;
 use replay_words::Memory;
 
-// The command of a line, where it is one: what is collected after it.
-pub fn act(
-    script: &mut Script,
-    pending: Pending,
-    line: &[u8],
-    memory: &mut Memory,
-    out: &mut [u8],
-) -> Option<Pending> {
+// Does the command of a line and collects what is said of it; a line that is no command gives nothing.
+pub fn act(script: &mut Script, line: &[u8], memory: &mut Memory, out: &mut Output) -> Option<()> {
     let command = replay_words::command_of(line, &mut memory.bytes)?;
     let called = replay_calls::call(*script, command, memory);
     *script = called.script;
-    Some(replay_answers::say(called, command, pending, memory, out))
+    replay_answers::say(called, command, memory, out);
+    Some(())
 }

@@ -7,6 +7,8 @@
 
 mod command;
 
+use output::Output;
+use replay_input::Reading;
 use replay_words::{Memory, PIECE, ROOM, TABLE};
 use std::io::{Read, Write};
 use streams::Streams;
@@ -25,28 +27,29 @@ pub fn play<I: Read, O: Write, E: Write>(standard: &mut Streams<I, O, E>) {
         bytes: [0u8; PIECE],
     };
     let mut input = [0u8; 65_536];
-    let mut out = [0u8; 262_144];
+    let mut collected = [0u8; 262_144];
+    let mut out = Output::new(&mut collected);
     run(standard, &mut memory, &mut input, &mut out);
+    replay_says::flushed(standard, &mut out);
 }
 
-// Turns are a bound for the proof: nothing lasts so long.
+// Answers line after line until the script is over; what is collected then is yet to be written. Turns are a bound for the
+// proof: nothing lasts so long.
 fn run<I: Read, O: Write, E: Write>(
     standard: &mut Streams<I, O, E>,
     memory: &mut Memory,
     input: &mut [u8],
-    out: &mut [u8],
+    out: &mut Output,
 ) {
     let mut script = replay_calls::start();
-    let mut reading = replay_input::nothing_read();
+    let mut reading = Reading::new(input);
     for _ in 0..u64::MAX {
-        let next = replay_input::next_line(standard, reading, input, out, LONGEST_ANSWER, LONGEST);
-        let Some(found) = next else {
+        let Some(line) = reading.next_line(standard, out, LONGEST_ANSWER, LONGEST) else {
             return;
         };
-        let end = found.end.min(input.len());
-        let start = found.start.min(end);
-        let line = &input[start..end];
-        let told = command::act(&mut script, found.said.pending, line, memory, out);
-        reading = replay_input::answered(found, told, out);
+        if command::act(&mut script, line, memory, out).is_none() {
+            replay_says::bad_line(out, reading.lines);
+            return;
+        }
     }
 }

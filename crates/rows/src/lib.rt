@@ -1,4 +1,4 @@
-// Rows into the caller's table of numbers, four a row: what the Rust hands to a sink.
+// Rows into the caller's table of numbers, four a row, as C lends it and 01 has them: what the Rust hands to a sink.
 #![tactic(auto)]
 
 ghost use Rattle.std.specs.Prelude.{◌≡◌, ◌+◌, ◌*◌, ◌≤◌, length};
@@ -8,7 +8,8 @@ ghost use Rattle.rows.specs.Table.{BeforeFits, before_numbers};
 
 use definition::{Kind, ROW, Row};
 
-// One row, from a place in the table on. Four stores: with copy_from_slice the numbers go by way of the stack.
+// One row, from a place in the table on. Four stores: copy_from_slice would be no shorter, and the numbers would go by way of the
+// stack.
 pub fn put_row(table: &mut [u64], at: usize, row: Row)
     requires { at + row_size ≤ length table.old }
     ensures { table.new ≡ put_at at (flat row) table.old }

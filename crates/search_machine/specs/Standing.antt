@@ -200,11 +200,14 @@ pub record Turned (st : State) (r : Search) (window literal input out : List ℕ
   pub placed : Placed r input
   pub collects : Collects r out
 
+-- all is told but for what is pending: a text stands behind what was
+abbrev pub OverWith : Search → List ℕ → List ℕ → Search → List ℕ → Type 0
+OverWith s text out r after = (r ≡ over_with s r.pending) × Tells s.pending out text r.pending after
+
 -- an opening was served, and the second line starts at a place of the input; or it was refused, and that is printed
 abbrev pub OpenedTo : Search → Result Session (Refused Session) → ℕ → List ℕ → Search → List ℕ → Type 0
 OpenedTo s (Ok opened) from out r after = (r ≡ opened_with s (searcher opened) from) × (after ≡ out)
-OpenedTo s (Err refused) from out r after =
-    (p : Pending) × (r ≡ over_with s p) × Tells s.pending out (refused_text (refusal_number refused.refusal)) p after
+OpenedTo s (Err refused) from out r after = OverWith s (refused_text (refusal_number refused.refusal)) out r after
 
 -- # What a read gave
 

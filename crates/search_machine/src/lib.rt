@@ -15,7 +15,7 @@ pub enum Stage {
     Text,
 }
 
-// What comes next: a turn, a read, or nothing.
+// What comes next: a turn, a read, or nothing. An enum, as `Stage` is.
 #[derive(Clone, Copy, PartialEq, Eq)]
 pub enum Phase {
     Going,

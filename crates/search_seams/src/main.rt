@@ -1,4 +1,5 @@
-// Lines across the places where one read ends and the next begins, and one that ends there.
+// Lines across the places where one read ends and the next begins, and one that ends there. It runs what `search` runs: a program
+// of its own, since its input and output lie beside it.
 #![tactic(auto)]
 
 use streams::Streams;

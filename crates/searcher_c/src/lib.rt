@@ -23,8 +23,9 @@ pub struct Searched {
     pub sum: Sum,
 }
 
-// The row table is numbers, four a row, as C has them. Pieces have the length asked for, or that of the text where it is 0. Told are the refusal or 0, the number of rows, their
-// mixed number, and bytes, lines, matches and cause of the end record, 0 where it is refused: numbers, as callers from C take them.
+// The row table is numbers, four a row, as C has them. Pieces have the length asked for, or that of the text where it is 0. Told
+// are the refusal or 0, the number of rows, their mixed number, and bytes, lines, matches and cause of the end record, 0 where it
+// is refused: numbers, as callers from C take them.
 #[unsafe(no_mangle)]
 pub extern "C" fn searcher_search(
     before: usize,
@@ -55,14 +56,10 @@ pub extern "C" fn searcher_search(
 }
 
 fn numbers(searched: Searched) -> [u64; 7] {
-    let refusal = match searched.refusal {
-        Some(refusal) => u64::from(refusal),
-        None => 0,
-    };
-    let [bytes, lines, matches, cause] = match searched.searcher.end_record() {
-        Ok(end) => [end.bytes, end.lines, end.matches, u64::from(end.cause)],
-        Err(_) => [0; 4],
-    };
+    let refusal = searched.refusal.map_or(0, u64::from);
+    let [_, bytes, lines, matches, cause, _, _] = ending::record_numbers(
+        searched.searcher.end_record(),
+    );
     let sum = searched.sum;
     [refusal, sum.rows, sum.mixed, bytes, lines, matches, cause]
 }

@@ -9,7 +9,7 @@ use std::io::{Read, Write};
 use streams::Streams;
 
 // Makes a step and writes what is then pending, until all is told. Turns are a bound for the proof: nothing lasts so long.
-// The parts are lent one by one: each may be longer than what is used of it (`Lent`), which a type of fixed parts would not take.
+// The parts are lent one by one: each function below uses some of them and lends others on, so a struct would be taken apart in each.
 pub fn serve<I: Read, O: Write, E: Write>(
     standard: &mut Streams<I, O, E>,
     window: &mut [u8],

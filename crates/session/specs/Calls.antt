@@ -1,7 +1,7 @@
 -- 01, "A session": each call as a decision, in the order of the refusals, and what it then gives: the answer, and every byte of window
 -- and row table. What a call hands back is said twice: as the `Result` that the code gives, and, made from that, by 01's numbers: 0 or
 -- the refusal's, "0 taken, 0 rows", and "a refused end record is all zeros".
-use Rattle.std.specs.Prelude.{◌≡◌, ℕ, ◌+◌, ◌-◌, min, Bool, true, false, cond, not, ◌&&◌, ◌||◌, List, [], ◌++◌, length, take, drop, ◌==◌, nat_le, nat_lt, Option, Some, None, Result, Ok, Err}
+use Rattle.std.specs.Prelude.{◌≡◌, ℕ, ◌+◌, ◌-◌, min, Bool, true, false, cond, not, ◌&&◌, ◌||◌, List, [], ◌∷◌, ◌++◌, length, take, drop, ◌==◌, nat_le, nat_lt, Option, Some, None, Result, Ok, Err}
 use Rattle.definition.specs.declared.Row.{Row}
 use Rattle.definition.specs.declared.Binary.{Binary}
 use Rattle.definition.specs.declared.Binary.TheVariants.{Ignore, Quit, Convert}
@@ -15,7 +15,7 @@ use Rattle.definition.specs.declared.Refusal.TheVariants.{BadSettings, BadWindow
 use Rattle.definition.specs.declared.Settings.{Settings}
 use Rattle.definition.specs.Bounds.{allowed, max_input, max_window}
 use Rattle.definition.specs.Definition.{cause_of}
-use Rattle.definition.specs.Numbers.{cause_number, refusal_number}
+use Rattle.definition.specs.Numbers.{cause_number, end_numbers, refusal_number}
 use Rattle.definition.specs.State.{fate_of}
 use Rattle.definition.specs.Text.{first_place, part, text}
 use Rattle.driver_core.specs.Answer.{AnswerDecision, AnswerRefused, Give, answering_since, below_one_since, gets_row, put_rows, rows_since, walk_next}
@@ -359,6 +359,10 @@ pub record Recorded : Type 0 where
 abbrev pub record_told : Result End Refusal → Recorded
 record_told (Ok end) = record { refusal = 0; end = end }
 record_told (Err k) = record { refusal = refusal_number k; end = no_record }
+
+-- the same as numbers: the refusal or 0, then the six of the end record
+abbrev pub record_numbers : Result End Refusal → List ℕ
+record_numbers r = (record_told r).refusal ∷ end_numbers (record_told r).end
 
 unfoldable pub recorded : Session → Recorded
 recorded s = record_told (record_result s)

@@ -7,7 +7,7 @@ use Rattle.definition.specs.declared.Settings.{Settings}
 use Rattle.definition.specs.Bounds.{plain}
 use Rattle.definition.specs.Examples.{Example, answers_at, context, settings, r, e, N, all, P}
 use Rattle.definition.specs.Numbers.{end_numbers}
-use Rattle.definition.specs.Rows.{flat, row_size, rows_in}
+use Rattle.definition.specs.Rows.{row_size, rows_in}
 use Rattle.driver_core.specs.Walk.{is_on}
 use Rattle.session.specs.declared.Input.TheVariants.{Open}
 use Rattle.session.specs.declared.Session.{Session}
@@ -79,7 +79,7 @@ driven (suc fuel) hits size s w rest rows =
           let hit = hits (s.walk.lines + 1) in
           let table = nines (row_size * (s.walk.settings.before + 2)) in
           let a = answered s w table hit in
-          driven fuel hits size a.session w rest (rows ++ map flat (rows_in a.rows (answered_table s w table hit)))
+          driven fuel hits size a.session w rest (rows ++ rows_in a.rows (answered_table s w table hit))
       | offers ↦
           let o = offered s w (take size rest) in
           let go = driven fuel hits size o.session (offered_window s w (take size rest)) (drop o.taken rest) rows in
@@ -105,7 +105,7 @@ play s w (answer hit n ∷ calls) =
     let table = nines n in
     let a = answered s w table hit in
     let table' = answered_table s w table hit in
-    gave a.refusal (map flat (rows_in a.rows table')) (drop (row_size * a.rows) table') ∷ play a.session w calls
+    gave a.refusal (rows_in a.rows table') (drop (row_size * a.rows) table') ∷ play a.session w calls
 play s w (tell ∷ calls) = heard (told s).refusal ∷ play (told s).session w calls
 play s w (ask ∷ calls) = ended (recorded s).refusal (end_numbers (recorded s).end) ∷ play s w calls
 play s w (look ∷ calls) = stood s ∷ play s w calls

@@ -50,7 +50,7 @@ pub struct Offered<S> {
     pub next: S,
 }
 
-// An answer that is served.
+// An answer that is served. Not one type with `Offered`: the name of the count says rows, and not bytes.
 #[derive(Clone, Copy)]
 pub struct Answered<S> {
     // how many rows were written

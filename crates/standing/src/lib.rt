@@ -1,13 +1,16 @@
-// How `search` stands next. Each function but `start` makes one `Search` from another and feeds the driver nothing; `wanting` alone touches a
-// buffer.
+// How `search` stands next. Each function but `start` makes one `Search` from another and feeds the driver nothing; `wanting`,
+// `refused` and `finished` alone touch a buffer.
 #![tactic(auto)]
 
 ghost use Rattle.std.specs.Prelude.{◌≡◌, List, ℕ, ◌+◌, ◌≤◌, ◌<◌, length};
+ghost use Rattle.definition.specs.Numbers.{refusal_number};
 ghost use Rattle.line_buffer.specs.Buffer.{rolled};
 ghost use Rattle.search_machine.specs.Search.{starts};
-ghost use Rattle.search_machine.specs.Standing.{begins, begun_with, going_with, opened_with, over_with, seen, wanting_with, with_more, written_out};
+ghost use Rattle.printing.specs.Texts.{end_text, line_most, refused_text};
+ghost use Rattle.search_machine.specs.Standing.{OverWith, begins, begun_with, going_with, opened_with, over_with, seen, wanting_with, with_more, written_out};
 
-use output::Pending;
+use definition::{End, Refusal};
+use output::{Output, Pending};
 use rare_bytes::Pair;
 use search_machine::{Phase, Search, Stage};
 use searcher::Searcher;
@@ -110,6 +113,32 @@ pub fn written(s: Search) -> Search
         pending: output::nothing_pending(),
         ..s
     }
+}
+
+// All is told but for what is pending, and last of it a refusal.
+pub fn refused(s: Search, out: &mut [u8], refusal: Refusal) -> Search
+    requires { s.pending.length + line_most ≤ length out.old }
+    ensures { OverWith s (refused_text (refusal_number refusal)) out.old result out.new }
+{
+    let mut told = Output {
+        room: out,
+        pending: s.pending,
+    };
+    printing::refusal(&mut told, refusal);
+    over(s, told.pending)
+}
+
+// All is told but for what is pending, and last of it the end record.
+pub fn finished(s: Search, out: &mut [u8], end: End) -> Search
+    requires { s.pending.length + line_most ≤ length out.old }
+    ensures { OverWith s (end_text end) out.old result out.new }
+{
+    let mut told = Output {
+        room: out,
+        pending: s.pending,
+    };
+    printing::end(&mut told, end);
+    over(s, told.pending)
 }
 
 // All is told but for what is pending.

@@ -2,10 +2,10 @@
 #![tactic(auto)]
 
 ghost use Rattle.std.specs.Prelude.{◌≡◌, ◌≤◌, length};
-ghost use Rattle.output.specs.Output.{collected, collected_in};
+ghost use Rattle.output.specs.Output.{collected, seen};
 ghost use Rattle.streams.specs.Moves.{MovedWithin, Takes, WritesFront, errno_of, failed_read, left_of, moved_in, unmoved_by};
 
-use output::Pending;
+use output::Output;
 use std::io::{Cursor, Error, ErrorKind, Read, Write};
 
 // The system's numbers of two failures: a signal came first, and a failure that has no number.
@@ -92,7 +92,8 @@ pub fn write<O: Write, E: Write>(to: &mut O, errors: &mut E, text: &[u8]) -> boo
     left == 0
 }
 
-// How many bytes are left of so many after a write of them; or the errno where they cannot be written, 0 where none was moved.
+// How many bytes are left of so many after a write of them; or the errno that is told where they cannot be written, which is 0
+// where none was moved.
 fn left_of(wrote: Result<usize, Failure>, size: usize) -> Result<usize, i32>
     ensures { result ≡ left_of wrote size }
 {
@@ -105,22 +106,18 @@ fn left_of(wrote: Result<usize, Failure>, size: usize) -> Result<usize, i32>
 }
 
 // Says that a read failed: the reason among the errors, and a line in the output.
-pub fn tell_failed_read<E: Write>(
-    errors: &mut E,
-    out: &mut [u8],
-    pending: Pending,
-    reason: i32,
-) -> Pending
-    ensures value { result ≡ collected pending failed_read out.old }
-    ensures out_after { out.new ≡ collected_in pending failed_read out.old }
+pub fn tell_failed_read<E: Write>(errors: &mut E, out: &mut Output, reason: i32)
+    ensures same_reference { out.new.room.ghost_name ≡ out.old.room.ghost_name }
+    ensures told { seen out.new ≡ collected (seen out.old) failed_read }
 {
     tell_reason(errors, "failed read, errno ", reason);
-    output::put(out, pending, b"failed read\n")
+    out.put(b"failed read\n");
 }
 
 // A line among the errors: what failed, errno's number, and the system's text for it. Where that fails nothing can be told.
 fn tell_reason<E: Write>(errors: &mut E, what: &str, reason: i32) {
-    let _ = write!(errors, "{what}{}: ", reason.max(0));
+    let _ = write!(errors, "{what}{}", reason.max(0));
+    let _ = errors.write_all(b": ");
     tell_text(errors, reason);
     let _ = errors.write_all(b"\n");
 }

@@ -6,6 +6,7 @@ ghost use Rattle.search_machine.specs.declared.Stage.TheVariants.{Text};
 ghost use Rattle.search_machine.specs.Standing.{Ready, Turned, seen};
 
 use machine::Next;
+use output::Output;
 use search_machine::Search;
 
 // The most that one turn prints: a row for each line before, a break and the match.
@@ -28,16 +29,19 @@ pub fn turns(
     let to = s.to;
     let mut searcher = s.searcher;
     let mut at = s.from;
-    let mut pending = s.pending;
+    let mut told = Output {
+        room: out,
+        pending: s.pending,
+    };
     for _ in 0..u64::MAX {
-        if out.len() - pending.length < TURN {
+        if told.room.len() - told.pending.length < TURN {
             break;
         }
         let hit = literal::contains_by(searcher.line(window), &literal[..size], s.pair);
         match searcher.answer(window, table, hit) {
             Ok(answered) => {
                 searcher = answered.next;
-                pending = printing::rows(out, pending, table, answered.rows);
+                printing::rows(&mut told, table, answered.rows);
             }
             Err(refused) => {
                 let fed = driving::feed(searcher, refused.refusal, window, &input[at..to]);
@@ -46,17 +50,20 @@ pub fn turns(
                 match fed.next {
                     Next::Goes => {}
                     Next::Wants => {
-                        let left = standing::going(s, searcher, at, pending);
+                        let left = standing::going(s, searcher, at, told.pending);
                         return standing::wanting(left, input);
                     }
-                    Next::Refuses(k) => return standing::over(
-                        s,
-                        printing::refusal(out, pending, k),
-                    ),
-                    Next::Ends(end) => return standing::over(s, printing::end(out, pending, end)),
+                    Next::Refuses(k) => {
+                        printing::refusal(&mut told, k);
+                        return standing::over(s, told.pending);
+                    }
+                    Next::Ends(end) => {
+                        printing::end(&mut told, end);
+                        return standing::over(s, told.pending);
+                    }
                 }
             }
         }
     }
-    standing::going(s, searcher, at, pending)
+    standing::going(s, searcher, at, told.pending)
 }

@@ -3,4 +3,4 @@ use Rattle.hearing.proofs.Hearings.{heard_short}
 use Rattle.hearing.proofs.ended.Goals as goal
 
 pub returns-in-First : goal.returns-in-First
-returns-in-First c = λ window literal input hearing. rw c.over.ensures (heard_short window literal hearing c.in-First.is c.refusal.ensures)
+returns-in-First c = λ window literal input hearing. heard_short window literal hearing c.in-First.is c.refused.ensures

@@ -1,11 +1,8 @@
 -- Each thing that a read can give is what the machine hears.
 use Rattle.std.specs.Prelude.{◌≡◌, Ok, Err}
 use mathlib.Core.Path.{◌∙◌, ap}
-use native.Mathlib.Omega.{arith}
 use Rattle.streams.specs.declared.Failure.TheVariants.{Errno}
-use Rattle.streams.specs.Moves.{failed_read}
 use Rattle.hearing.proofs.Hearings.{heard_failed, heard_more}
-use Rattle.printing.proofs.Laws.{put_tells}
 use Rattle.hearing.proofs.heard.Goals as goal
 
 pub returns-in-Ok-eq0 : goal.returns-in-Ok-eq0
@@ -20,5 +17,4 @@ returns-in-Ok g c =
 pub returns-in-Err-Errno : goal.returns-in-Err-Errno
 returns-in-Err-Errno g c =
     let failure : c.args.got ≡ Err (Errno c.in-Err-Errno.reason) = c.in-Err-Errno.is ∙ ap (λ e. Err e) (rw c.in-Err-Errno.is at c.in-Err-Errno.field-0-is) in
-    let told = put_tells c.args.s.pending failed_read c.args.out.now _ _ (c.tell_failed_read.ensures.value, c.tell_failed_read.ensures.out_after) (omega (arith, c.requires.nothing, c.requires.out_room)) in
-    λ window literal. rw (c.over.ensures, failure) (heard_failed window literal (rw failure at c.requires) told)
+    λ window literal. rw failure (heard_failed window literal (rw failure at c.requires) c.failed.ensures)

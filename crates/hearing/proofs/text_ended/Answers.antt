@@ -9,7 +9,7 @@ pub returns-in-Wants : goal.returns-in-Wants
 returns-in-Wants c = λ window literal input hearing. absurd (told_wants c.args.s.searcher.session c.tell_end-fed.ensures c.in-Wants.is)
 
 pub returns-in-Refuses : goal.returns-in-Refuses
-returns-in-Refuses c = λ window literal input hearing. rw c.over.ensures (heard_refused window literal hearing c.requires.0 c.tell_end-fed.ensures c.in-Refuses.is c.refusal.ensures)
+returns-in-Refuses c = λ window literal input hearing. heard_refused window literal hearing c.requires.0 c.tell_end-fed.ensures c.in-Refuses.is c.refused.ensures
 
 pub returns-in-Ends : goal.returns-in-Ends
-returns-in-Ends c = λ window literal input hearing. rw c.over-in-Ends.ensures (heard_end window literal hearing c.requires.0 c.tell_end-fed.ensures c.in-Ends.is c.end.ensures)
+returns-in-Ends c = λ window literal input hearing. heard_end window literal hearing c.requires.0 c.tell_end-fed.ensures c.in-Ends.is c.finished.ensures

@@ -3,4 +3,4 @@ use Rattle.literal_places.specs.Sweeps.{Nowhere}
 use Rattle.literal_places.proofs.each.Given as goal
 
 abbrev pub invariant-loop-at : goal.invariant-loop-at
-invariant-loop-at l = Nowhere l.literal l.line l.from l.at
+invariant-loop-at l = Nowhere l.sought.literal.now l.sought.line.now l.from l.at

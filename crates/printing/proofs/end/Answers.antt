@@ -1,6 +1,6 @@
 -- The word and its space, then the four numbers.
-use Rattle.output.proofs.Laws.{tells_more}
+use Rattle.output.proofs.Laws.{told_more}
 use Rattle.printing.proofs.end.Goals as goal
 
-pub returns : goal.returns
-returns c = rw c.from.ensures at (tells_more c.text-named.ensures c.four.ensures.told)
+pub returns-clause-told : goal.returns-clause-told
+returns-clause-told c = rw c.from.ensures at (told_more c.text.ensures c.four.ensures.told)

@@ -1,7 +1,7 @@
 -- The word and its space, the number, a newline.
-use Rattle.output.proofs.Laws.{tells_more}
-use Rattle.printing.proofs.Laws.{refused_parts, tells_same}
+use Rattle.output.proofs.Laws.{told_more}
+use Rattle.printing.proofs.Laws.{refused_parts, told_same}
 use Rattle.printing.proofs.refusal.Goals as goal
 
-pub returns : goal.returns
-returns c = rw c.from.ensures at (tells_same (refused_parts c.from.result) (tells_more (tells_more c.text-named.ensures c.number-numbered.ensures.told) c.text.ensures))
+pub returns-clause-told : goal.returns-clause-told
+returns-clause-told c = rw c.from.ensures at (told_same (refused_parts c.from.result) (told_more (told_more c.text.ensures c.number.ensures.told) c.text-2.ensures))

@@ -2,7 +2,7 @@
 use mathlib.Core.Path.{refl}
 use native.Mathlib.Numerals.{add-one}
 use Rattle.literal_places.specs.Sweeps.{any_hit}
-use Rattle.literal_places.proofs.any_hit.Goals as goal
+use Rattle.literal_places.proofs.Sought.any_hit.Goals as goal
 
 pub loop-k-init : goal.loop-k-init
 unfolding any_hit
