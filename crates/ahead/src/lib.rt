@@ -81,6 +81,6 @@ pub fn end_with(walk: Walk, cause: Cause, place: Option<u64>) -> End
         lines: walk.lines,
         matches: walk.matches,
         cause,
-        binary_offset: place,
+        offset: place,
     }
 }

@@ -185,7 +185,7 @@ binary_place (Convert b) terminator cause bytes input =
 
 abbrev pub end_with : ℕ → ℕ → ℕ → Cause → Option ℕ → End
 end_with bytes count matches cause place =
-    record { bytes = bytes; lines = count; matches = matches; cause = cause; binary_offset = place }
+    record { bytes = bytes; lines = count; matches = matches; cause = cause; offset = place }
 
 unfoldable pub end_record : Settings → List ℕ → ℕ → ℕ → ℕ → Going → End
 end_record c input bytes count matches going =

@@ -34,4 +34,4 @@ offset_of (Some p) = p
 
 abbrev pub end_numbers : End → List ℕ
 end_numbers e =
-    e.bytes ∷ (e.lines ∷ (e.matches ∷ (cause_number e.cause ∷ (flag_of e.binary_offset ∷ (offset_of e.binary_offset ∷ [])))))
+    e.bytes ∷ (e.lines ∷ (e.matches ∷ (cause_number e.cause ∷ (flag_of e.offset ∷ (offset_of e.offset ∷ [])))))

@@ -135,7 +135,7 @@ pub struct End {
     pub matches: u64,
     pub cause: Cause,
     // where a byte was met that marks binary data, counting from 0
-    pub binary_offset: Option<u64>,
+    pub offset: Option<u64>,
 }
 
 // Why a call is not served, in the order of the table of refusals.

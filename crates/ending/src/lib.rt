@@ -109,8 +109,8 @@ pub fn record_numbers(answer: Result<End, Refusal>) -> [u64; 7]
             end.lines,
             end.matches,
             u64::from(end.cause),
-            u64::from(end.binary_offset.is_some()),
-            end.binary_offset.unwrap_or(0),
+            u64::from(end.offset.is_some()),
+            end.offset.unwrap_or(0),
         ],
         Err(refusal) => [u64::from(refusal), 0, 0, 0, 0, 0, 0],
     }

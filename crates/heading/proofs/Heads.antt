@@ -33,7 +33,7 @@ use Rattle.printing.specs.Texts.{newline, refused_text}
 use Rattle.search_machine.proofs.Places.{same_state, tells_within, part_rolled, part_take}
 use Rattle.machine.proofs.Leads.{closes_ends, leads_goes, leads_none}
 
-looked : (xs : List ℕ) → Stands (looked_at xs) xs
+pub looked : (xs : List ℕ) → Stands (looked_at xs) xs
 unfolding looked_at
 looked xs = go (leb (first_place newline xs) longest) refl (ltb (first_place newline xs) (length xs)) refl
   where
@@ -59,7 +59,7 @@ module _ {s : Search} {literal input out : List ℕ} (w : List ℕ) (ready : Hea
   nothing_yet = ap (λ n. take n out) ready.nothing.none
 
   -- over, with a text printed
-  once_over : (text : List ℕ) → turn_of st ≡ ends text → {r : Search} {after : List ℕ} → OverWith s text out r after
+  pub once_over : (text : List ℕ) → turn_of st ≡ ends text → {r : Search} {after : List ℕ} → OverWith s text out r after
       → Turned st r w literal input after
   once_over text e (is, t) =
       rw is (record {
@@ -110,7 +110,7 @@ module _ {s : Search} {literal input out : List ℕ} (w : List ℕ) (ready : Hea
 
   module _ {n : ℕ} (h : Whole n ≡ looked_at rest) where
     -- where it lies
-    inside : (n ≤ longest) × (s.from + n < s.to) × (s.to ≤ length input)
+    pub inside : (n ≤ longest) × (s.from + n < s.to) × (s.to ≤ length input)
     inside =
         let at : Stands (Whole n) rest = subst (λ k. Stands k rest) (sym h) (looked rest) in
         let size = part_length s.from s.to input ready.placed.from_to ready.placed.to_in in

@@ -34,14 +34,14 @@ use Rattle.search_machine.proofs.Places.{tells_within}
 
 -- # What the machine does
 
-hears_some : (stage : Stage) (l : List ℕ) (s : Session) (w rest bytes : List ℕ)
+pub hears_some : (stage : Stage) (l : List ℕ) (s : Session) (w rest bytes : List ℕ)
     → hears_of (some bytes) (state_at stage l s w rest) ≡ goes [] (state_at stage l s w (rest ++ bytes))
 unfolding hears_of
 hears_some First l s w rest bytes = refl
 hears_some Second l s w rest bytes = refl
 hears_some Text l s w rest bytes = refl
 
-hears_failed : (stage : Stage) (l : List ℕ) (s : Session) (w rest : List ℕ) → hears_of failed (state_at stage l s w rest) ≡ ends failed_read
+pub hears_failed : (stage : Stage) (l : List ℕ) (s : Session) (w rest : List ℕ) → hears_of failed (state_at stage l s w rest) ≡ ends failed_read
 unfolding hears_of
 hears_failed First l s w rest = refl
 hears_failed Second l s w rest = refl
@@ -63,7 +63,7 @@ module _ {s : Search} {got : Result ℕ Failure} {input out : List ℕ} (w liter
   nothing_yet = ap (λ n. take n out) hearing.nothing.none
 
   -- all is told
-  heard_over : (text : List ℕ) → heard_as got s.to input (seen s w literal input) ≡ ends text → {r : Search} {after : List ℕ}
+  pub heard_over : (text : List ℕ) → heard_as got s.to input (seen s w literal input) ≡ ends text → {r : Search} {after : List ℕ}
       → OverWith s text out r after
       → Heard s got w literal input r after
   heard_over text e (is, t) =
@@ -109,15 +109,15 @@ module _ {s : Search} {input out : List ℕ} (w literal : List ℕ) where
     heard_short e t = heard_over w literal hearing (refused_text 1) (head_ends e) t
 
     module _ (in_text : s.stage ≡ Text) {f : Fed Searcher} (e : f ≡ door_fed (fed_end s.searcher.session)) where
-      text_goes : f.next ≡ Goes → hears_of ended st ≡ goes [] (state_at s.stage (take s.size literal) f.session.session w (part s.from s.to input))
+      pub text_goes : f.next ≡ Goes → hears_of ended st ≡ goes [] (state_at s.stage (take s.size literal) f.session.session w (part s.from s.to input))
       unfolding hears_of
       text_goes n = rw (in_text, e, sym (ap (λ x. x.next) e) ∙ n)
 
-      text_refuses : {k : Refusal} → f.next ≡ Refuses k → hears_of ended st ≡ ends (refused_text (refusal_number k))
+      pub text_refuses : {k : Refusal} → f.next ≡ Refuses k → hears_of ended st ≡ ends (refused_text (refusal_number k))
       unfolding hears_of
       text_refuses n = rw (in_text, sym (ap (λ x. x.next) e) ∙ n)
 
-      text_ends : {end : End} → f.next ≡ Ends end → hears_of ended st ≡ ends (end_text end)
+      pub text_ends : {end : End} → f.next ≡ Ends end → hears_of ended st ≡ ends (end_text end)
       unfolding hears_of
       text_ends n = rw (in_text, sym (ap (λ x. x.next) e) ∙ n)
 

@@ -43,7 +43,7 @@ starts_short (b ∷ bs) (x ∷ xs) l = rw (starts_short bs xs (omega arith)) (an
     and-false false = refl
 
 -- a comparison byte by byte: one more byte ..
-starts_step : (literal line : List ℕ) (at k : ℕ) → k < length literal → at + k < length line
+pub starts_step : (literal line : List ℕ) (at k : ℕ) → k < length literal → at + k < length line
     → starts_with (drop k literal) (drop (at + k) line)
     ≡ (eqb (get_or line (at + k) 0) (get_or literal k 0) && starts_with (drop (k + 1) literal) (drop (at + (k + 1)) line))
 unfolding starts_with
@@ -52,7 +52,7 @@ starts_step literal line at k l m =
     rw (e, add-one k, drop-cons literal k 0 l, drop-cons line (at + k) 0 m)
 
 -- .. until the literal is at its end
-starts_end : (literal text : List ℕ) → starts_with (drop (length literal) literal) text ≡ true
+pub starts_end : (literal text : List ℕ) → starts_with (drop (length literal) literal) text ≡ true
 unfolding starts_with
 starts_end literal text = rw (drop-length literal)
 

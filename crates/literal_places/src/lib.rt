@@ -14,8 +14,8 @@ pub struct Sought<'a> {
     pub first: usize,
     pub second: usize,
     pub places: usize,
-    pub ghost first_in: { first < length literal.now },
-    pub ghost second_in: { second < length literal.now },
+    pub ghost one: { first < length literal.now },
+    pub ghost other: { second < length literal.now },
     pub ghost room: { places + length literal.now ≤ length line.now + 1 },
 }
 

@@ -1,7 +1,7 @@
 -- Laws of numbers and of collected text, for the functions here and for the programs above that say what they write.
 use Prim.Native.Nat.{ℕ, suc, zero, ◌+◌, ◌-◌, ◌*◌, ◌/◌, ◌%◌, ◌^◌, ◌≤◌, ◌<◌}
 use mathlib.Core.Path.{◌≡◌, refl, sym, ◌∙◌, ap}
-use mathlib.Core.Bool.{true}
+use mathlib.Core.Bool.{Bool, true, false, cond}
 use mathlib.Core.List.{List, [], ◌∷◌, ◌++◌, append_assoc, append-nil}
 use native.Mathlib.Decide.{dec_lt}
 use native.Mathlib.Nat.{div-lt_iff_lt-mul, le-div_iff_mul-le, le_trans, mod-eq_of_lt, mod-lt, pow-le-pow_right, pow-suc}
@@ -26,6 +26,15 @@ pub collected_lost : (o : Collected) (text : List ℕ) → length o.room < o.pen
     → collected o text ≡ over o.loan o.room (record { length = o.pending.length; lost = true })
 unfolding collected fits
 collected_lost o text h = rw (lt-leb (o.pending.length + length text) (length o.room) h)
+
+-- whether it has room or not, a text leaves the buffer lent that was
+pub collected_loan : (o : Collected) (text : List ℕ) → (collected o text).loan ≡ o.loan
+unfolding collected
+collected_loan o text = go (fits o text)
+  where
+    go : (b : Bool) → (cond b (added o text) (over o.loan o.room (record { length = o.pending.length; lost = true }))).loan ≡ o.loan
+    go true = refl
+    go false = refl
 
 pub added_none : (o : Collected) → added o [] ≡ o
 added_none o =

@@ -3,7 +3,7 @@ use Prim.Native.Nat.{◌/◌, ℕ, suc, zero, ◌+◌, ◌*◌, ◌≤◌, ◌<�
 use mathlib.Core.Path.{◌≡◌, refl, sym, ◌∙◌, ap}
 use mathlib.Core.List.{List, [], ◌∷◌, ◌++◌, append_assoc, append-nil, flatten, map}
 use native.Mathlib.Omega.{arith}
-use lib.Seq.{take_all}
+use lib.Seq.{get_or-drop, take_all}
 use Rattle.std.specs.Simd.{first_chunks}
 use lib.ListN.{length, get_or, drop, take, length-append}
 use Rattle.std.proofs.lemmas.List.{map-append, take_more}
@@ -32,6 +32,36 @@ unfolding refused_text
 refused_parts k = simp append_assoc
 
 -- # Rows
+
+-- the row at a place of a table, printed
+abbrev pub row_at : List ℕ → ℕ → List ℕ
+row_at table at = four_text (get_or table at 0) (get_or table (at + 3) 0) (get_or table (at + 1) 0) (get_or table (at + 2) 0)
+
+row_at_drop : (table : List ℕ) (at : ℕ) → row_at (drop row_size table) at ≡ row_at table (row_size + at)
+row_at_drop table at =
+    let one : row_size + (at + 1) ≡ row_size + at + 1 = omega arith in
+    let two : row_size + (at + 2) ≡ row_size + at + 2 = omega arith in
+    let three : row_size + (at + 3) ≡ row_size + at + 3 = omega arith in
+    simp (get_or-drop row_size table, one, two, three)
+
+-- the numbers that a table begins with are its first row's
+first_row : (table : List ℕ) → numbers_text (take row_size table) ≡ row_at table 0
+first_row [] = refl
+first_row (a ∷ []) = refl
+first_row (a ∷ (b ∷ [])) = refl
+first_row (a ∷ (b ∷ (c ∷ []))) = refl
+first_row (a ∷ (b ∷ (c ∷ (d ∷ rest)))) = refl
+
+-- one row more
+pub rows_next : (i : ℕ) (table : List ℕ) → rows_text (suc i) table ≡ rows_text i table ++ row_at table (row_size * i)
+unfolding rows_text flatten
+rows_next zero table = append-nil (numbers_text (take row_size table)) ∙ first_row table
+rows_next (suc i) table =
+    let rest = drop row_size table in
+    let next : row_size + row_size * i ≡ row_size * suc i = omega arith in
+    let more : rows_text (suc i) rest ≡ rows_text i rest ++ row_at table (row_size * suc i) = rows_next i rest ∙ ap (λ text. rows_text i rest ++ text) (row_at_drop table (row_size * i) ∙ ap (λ n. row_at table n) next) in
+    let front = numbers_text (take row_size table) in
+    ap (λ text. front ++ text) more ∙ sym (append_assoc front (rows_text i rest) (row_at table (row_size * suc i)))
 
 -- the text of a table that holds rows is theirs
 pub rows_of : (rs : List Row) (table : List ℕ) → rows_text (length rs) (flatten (map flat rs) ++ table) ≡ flatten (map row_text rs)

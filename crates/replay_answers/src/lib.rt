@@ -2,15 +2,25 @@
 // overwrites bytes of the room.
 #![tactic(auto)]
 
+ghost use Rattle.std.specs.Prelude.{◌≡◌};
+
 use definition::Refusal;
 use output::Output;
 use replay_calls::Called;
-use replay_words::{Command, Memory};
+use replay_words::Command;
 use searcher::Searcher;
 
 // What is said of a call.
-pub fn say(called: Called, command: Command, memory: &mut Memory, out: &mut Output) {
-    let Memory { room, table, bytes } = memory;
+pub fn say(
+    called: Called,
+    command: Command,
+    room: &mut [u8],
+    table: &[u64],
+    bytes: &[u8],
+    out: &mut Output,
+)
+    ensures { out.new.room.ghost_name ≡ out.old.room.ghost_name }
+{
     let searcher = called.script.searcher;
     let window = &room[..called.script.lent.min(room.len())];
     match command {
@@ -36,34 +46,46 @@ fn refusal_of(count: Result<usize, Refusal>) -> u64 {
     }
 }
 
-fn say_refusal(count: Result<usize, Refusal>, name: &[u8], out: &mut Output) {
+fn say_refusal(count: Result<usize, Refusal>, name: &[u8], out: &mut Output)
+    ensures { out.new.room.ghost_name ≡ out.old.room.ghost_name }
+{
     replay_says::said_numbers(out, name, &[refusal_of(count)]);
 }
 
-fn say_offer(count: Result<usize, Refusal>, out: &mut Output) {
+fn say_offer(count: Result<usize, Refusal>, out: &mut Output)
+    ensures { out.new.room.ghost_name ≡ out.old.room.ghost_name }
+{
     let taken = count.unwrap_or(0) as u64;
     replay_says::said_numbers(out, b"offer", &[refusal_of(count), taken]);
 }
 
-fn say_answer(count: Result<usize, Refusal>, table: &[u64], out: &mut Output) {
+fn say_answer(count: Result<usize, Refusal>, table: &[u64], out: &mut Output)
+    ensures { out.new.room.ghost_name ≡ out.old.room.ghost_name }
+{
     let rows = count.unwrap_or(0);
     replay_says::said_rows(out, b"answer", refusal_of(count), table, rows);
 }
 
-fn say_table(table: &[u64], first: usize, last: usize, out: &mut Output) {
+fn say_table(table: &[u64], first: usize, last: usize, out: &mut Output)
+    ensures { out.new.room.ghost_name ≡ out.old.room.ghost_name }
+{
     let to = last.min(table.len());
     let from = first.min(to);
     replay_says::said_numbers(out, b"table", &table[from..to]);
 }
 
-fn poke(room: &mut [u8], place: usize, bytes: &[u8], count: usize, out: &mut Output) {
+fn poke(room: &mut [u8], place: usize, bytes: &[u8], count: usize, out: &mut Output)
+    ensures { out.new.room.ghost_name ≡ out.old.room.ghost_name }
+{
     let at = place.min(room.len());
     let size = count.min(bytes.len()).min(room.len() - at);
     room[at..at + size].copy_from_slice(&bytes[..size]);
     out.put(b"poke\n");
 }
 
-fn say_waiting(searcher: Searcher, window: &[u8], out: &mut Output) {
+fn say_waiting(searcher: Searcher, window: &[u8], out: &mut Output)
+    ensures { out.new.room.ghost_name ≡ out.old.room.ghost_name }
+{
     let waits = match searcher.waiting(window) {
         Ok(waits) => u64::from(waits),
         Err(refusal) => u64::from(refusal),
@@ -71,7 +93,9 @@ fn say_waiting(searcher: Searcher, window: &[u8], out: &mut Output) {
     replay_says::said_numbers(out, b"waiting", &[waits]);
 }
 
-fn say_record(searcher: Searcher, out: &mut Output) {
+fn say_record(searcher: Searcher, out: &mut Output)
+    ensures { out.new.room.ghost_name ≡ out.old.room.ghost_name }
+{
     let numbers = ending::record_numbers(searcher.end_record());
     replay_says::said_numbers(out, b"record", &numbers);
 }

@@ -3,7 +3,7 @@
 #![tactic(auto)]
 
 use definition::{Refusal, Settings};
-use replay_words::{Command, Memory, ROOM};
+use replay_words::{Command, ROOM};
 use searcher::Searcher;
 use session::Refused;
 
@@ -31,8 +31,13 @@ pub fn start() -> Script {
 }
 
 // The call that a command makes.
-pub fn call(script: Script, command: Command, memory: &mut Memory) -> Called {
-    let Memory { room, table, bytes } = memory;
+pub fn call(
+    script: Script,
+    command: Command,
+    room: &mut [u8],
+    table: &mut [u64],
+    bytes: &[u8],
+) -> Called {
     match command {
         Command::Open(settings, window) => open(settings, window),
         Command::Offer(count) => offer(script, room, bytes, count),

@@ -2,30 +2,30 @@
 // and a long script is read in large pieces.
 #![tactic(auto)]
 
-ghost use Rattle.std.specs.Prelude.{◌≡◌, ◌≤◌, length};
+ghost use Rattle.std.specs.Prelude.{◌≡◌, ◌≤◌, false, length};
 ghost use Rattle.replay_input.specs.Input.{EndsBefore, EndsBehind, is_end};
 
 use output::Output;
 use std::io::{Read, Write};
 use streams::{Failure, Streams};
 
-// A lent buffer of which what is not yet gone through lies from `from` to `to`.
-#[derive(Drop)]
-pub struct Reading<'a> {
-    input: &'a mut [u8],
-    from: usize,
-    to: usize,
+// How far a lent input is gone through: what is not yet lies from `from` to `to`, and no further than the input goes.
+#[derive(Clone, Copy)]
+pub struct Reading {
+    pub from: usize,
+    pub to: usize,
     // how many lines were found
     pub lines: u64,
     // no more will come: a flag, since lines that came before may still be there
-    ended: bool,
+    pub ended: bool,
 }
 
-impl<'a> Reading<'a> {
+impl Reading {
     // Nothing is read yet.
-    pub fn new(input: &'a mut [u8]) -> Reading<'a> {
+    pub fn new() -> Reading
+        ensures { result ≡ record { from = 0; to = 0; lines = 0; ended = false } }
+    {
         Reading {
-            input,
             from: 0,
             to: 0,
             lines: 0,
@@ -36,25 +36,28 @@ impl<'a> Reading<'a> {
     // The next line, behind which an answer of the most bytes has room; there is none where the script is over: by its end, a
     // line that is too long, or a failure. What is collected then is the caller's to write. Turns are a bound for the proof:
     // nothing lasts so long.
-    pub fn next_line<I: Read, O: Write, E: Write>(
+    pub fn next_line<'a, I: Read, O: Write, E: Write>(
         &mut self,
         standard: &mut Streams<I, O, E>,
+        input: &'a mut [u8],
         out: &mut Output,
         most: usize,
         longest: usize,
-    ) -> Option<&[u8]> {
+    ) -> Option<&'a [u8]>
+        ensures { out.new.room.ghost_name ≡ out.old.room.ghost_name }
+    {
         if !replay_says::with_room(standard, out, most) {
             return None;
         }
         for _ in 0..u64::MAX {
-            let to = self.to.min(self.input.len());
+            let to = self.to.min(input.len());
             let from = self.from.min(to);
-            if let Some(end) = line_end(self.input, from, to) {
+            if let Some(end) = line_end(input, from, to) {
                 self.from = end + 1;
                 self.lines = replay_says::counted(self.lines);
-                return Some(&self.input[from..end]);
+                return Some(&input[from..end]);
             }
-            self.fill(standard, out, longest)?;
+            self.fill(standard, input, out, longest)?;
         }
         None
     }
@@ -64,10 +67,13 @@ impl<'a> Reading<'a> {
     fn fill<I: Read, O: Write, E: Write>(
         &mut self,
         standard: &mut Streams<I, O, E>,
+        input: &mut [u8],
         out: &mut Output,
         longest: usize,
-    ) -> Option<()> {
-        let to = self.to.min(self.input.len());
+    ) -> Option<()>
+        ensures { out.new.room.ghost_name ≡ out.old.room.ghost_name }
+    {
+        let to = self.to.min(input.len());
         let from = self.from.min(to);
         let rest = to - from;
         if longest < rest {
@@ -77,14 +83,14 @@ impl<'a> Reading<'a> {
         if !replay_says::flushed(standard, out) || self.ended {
             return None;
         }
-        line_buffer::roll(self.input, from, to);
-        let moved = streams::read(&mut standard.input, &mut self.input[rest..]);
+        line_buffer::roll(input, from, to);
+        let moved = streams::read(&mut standard.input, &mut input[rest..]);
         if let Err(Failure::Errno(reason)) = moved {
             streams::tell_failed_read(&mut standard.errors, out, reason);
             return None;
         }
         self.from = 0;
-        self.to = reached(moved, rest, self.input);
+        self.to = reached(moved, rest, input);
         self.ended = is_end(moved);
         Some(())
     }

@@ -3,7 +3,7 @@
 #![tactic(auto)]
 
 ghost use Rattle.std.specs.Prelude.{◌≡◌, min, ◌+◌};
-ghost use Rattle.output.specs.Output.{collected, decimal, seen};
+ghost use Rattle.output.specs.Output.{collected, decimal, none, over, seen};
 
 use output::Output;
 use std::io::Write;
@@ -14,13 +14,18 @@ pub fn with_room<I, O: Write, E: Write>(
     standard: &mut Streams<I, O, E>,
     out: &mut Output,
     most: usize,
-) -> bool {
+) -> bool
+    ensures same_reference { out.new.room.ghost_name ≡ out.old.room.ghost_name }
+    ensures same_room { out.new.room.now ≡ out.old.room.now }
+{
     out.has_room(most) || flushed(standard, out)
 }
 
 // Writes what is collected; whether the script may go on. Where that fails, or a text was lost, it is over, so that the output
 // has no hole.
-pub fn flushed<I, O: Write, E: Write>(standard: &mut Streams<I, O, E>, out: &mut Output) -> bool {
+pub fn flushed<I, O: Write, E: Write>(standard: &mut Streams<I, O, E>, out: &mut Output) -> bool
+    ensures { seen out.new ≡ over out.old.room.ghost_name out.old.room.now none }
+{
     let written = streams::write(&mut standard.output, &mut standard.errors, out.written());
     let whole = written && !out.pending.lost;
     out.clear();
@@ -35,26 +40,35 @@ pub fn counted(lines: u64) -> u64
 }
 
 // Says that a line is bad, which ends the script.
-pub fn bad_line(out: &mut Output, line: u64) {
+pub fn bad_line(out: &mut Output, line: u64)
+    ensures { out.new.room.ghost_name ≡ out.old.room.ghost_name }
+{
     said_numbers(out, b"bad line", &[line]);
 }
 
 // A line of a text and bytes.
-pub fn said_bytes(out: &mut Output, text: &[u8], bytes: &[u8]) {
+#[tactic(auto, using(output::proofs::Laws::collected_loan))]
+pub fn said_bytes(out: &mut Output, text: &[u8], bytes: &[u8])
+    ensures { out.new.room.ghost_name ≡ out.old.room.ghost_name }
+{
     out.put(text);
     hex_text::put(out, bytes);
     out.put(b"\n");
 }
 
 // A line of a text and numbers, a space before each.
-pub fn said_numbers(out: &mut Output, text: &[u8], numbers: &[u64]) {
+pub fn said_numbers(out: &mut Output, text: &[u8], numbers: &[u64])
+    ensures { out.new.room.ghost_name ≡ out.old.room.ghost_name }
+{
     out.put(text);
     separated(out, b" ", numbers);
     out.put(b"\n");
 }
 
 // A line of a text, a refusal by its number, which is what is said, how many rows, and those rows of a table.
-pub fn said_rows(out: &mut Output, text: &[u8], refusal: u64, table: &[u64], rows: usize) {
+pub fn said_rows(out: &mut Output, text: &[u8], refusal: u64, table: &[u64], rows: usize)
+    ensures { out.new.room.ghost_name ≡ out.old.room.ghost_name }
+{
     out.put(text);
     separated(out, b" ", &[refusal, rows as u64]);
     for row in table.chunks_exact(definition::ROW).take(rows) {
@@ -64,7 +78,9 @@ pub fn said_rows(out: &mut Output, text: &[u8], refusal: u64, table: &[u64], row
 }
 
 // Numbers behind a space, a separator between them.
-fn separated(out: &mut Output, separator: &[u8], numbers: &[u64]) {
+fn separated(out: &mut Output, separator: &[u8], numbers: &[u64])
+    ensures { out.new.room.ghost_name ≡ out.old.room.ghost_name }
+{
     let mut before: &[u8] = b" ";
     for number in numbers {
         said_number(out, before, *number);
@@ -74,7 +90,8 @@ fn separated(out: &mut Output, separator: &[u8], numbers: &[u64]) {
 
 // The number stands behind the text.
 fn said_number(out: &mut Output, text: &[u8], number: u64)
-    ensures { seen out.new ≡ collected (collected (seen out.old) text.now) (decimal number) }
+    ensures same_reference { out.new.room.ghost_name ≡ out.old.room.ghost_name }
+    ensures value { seen out.new ≡ collected (collected (seen out.old) text.now) (decimal number) }
 {
     out.put(text);
     out.put_number(number);

@@ -148,7 +148,7 @@ fn at_most(number: u64, most: usize) -> Option<usize>
 }
 
 // The settings that the words of an opening ask for.
-fn settings_of(line: &[u8]) -> Option<Settings> {
+pub fn settings_of(line: &[u8]) -> Option<Settings> {
     let terminator = byte(line_words::number_at(line, 7)?)?;
     Some(Settings {
         before: line_words::number_at(line, 1)? as usize,

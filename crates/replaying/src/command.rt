@@ -27,8 +27,9 @@ use replay_words::Memory;
 // Does the command of a line and collects what is said of it; a line that is no command gives nothing.
 pub fn act(script: &mut Script, line: &[u8], memory: &mut Memory, out: &mut Output) -> Option<()> {
     let command = replay_words::command_of(line, &mut memory.bytes)?;
-    let called = replay_calls::call(*script, command, memory);
+    let Memory { room, table, bytes } = memory;
+    let called = replay_calls::call(*script, command, room, table, bytes);
     *script = called.script;
-    replay_answers::say(called, command, memory, out);
+    replay_answers::say(called, command, room, table, bytes, out);
     Some(())
 }

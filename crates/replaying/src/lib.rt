@@ -23,9 +23,11 @@ const LONGEST_ANSWER: usize = 2 * ROOM + 126;
 pub fn play<I: Read, O: Write, E: Write>(standard: &mut Streams<I, O, E>) {
     let mut memory = Memory {
         room: [0u8; ROOM],
-        table: [9u64; TABLE],
+        table: [0u64; TABLE],
         bytes: [0u8; PIECE],
     };
+    // filled where it lies: as a literal of nines it would be made beside the struct and copied, 31 KiB more of stack
+    memory.table.fill(9);
     let mut input = [0u8; 65_536];
     let mut collected = [0u8; 262_144];
     let mut out = Output::new(&mut collected);
@@ -42,9 +44,9 @@ fn run<I: Read, O: Write, E: Write>(
     out: &mut Output,
 ) {
     let mut script = replay_calls::start();
-    let mut reading = Reading::new(input);
+    let mut reading = Reading::new();
     for _ in 0..u64::MAX {
-        let Some(line) = reading.next_line(standard, out, LONGEST_ANSWER, LONGEST) else {
+        let Some(line) = reading.next_line(standard, input, out, LONGEST_ANSWER, LONGEST) else {
             return;
         };
         if command::act(&mut script, line, memory, out).is_none() {

@@ -350,7 +350,7 @@ record_result s = record_given (recording s) s
 
 -- "a refused end record is all zeros"
 abbrev pub no_record : End
-no_record = record { bytes = 0; lines = 0; matches = 0; cause = InputEnd; binary_offset = None }
+no_record = record { bytes = 0; lines = 0; matches = 0; cause = InputEnd; offset = None }
 
 pub record Recorded : Type 0 where
   pub refusal : ℕ

@@ -11,12 +11,12 @@ use mir.Val.{SFits, of_z}
 use borrow.Author.Tests.{eq-eqb, ne_eqb}
 use lib.Seq.{take-add}
 use Rattle.std.specs.Prelude.{Option, Result, Ok, Err}
-use Rattle.std.specs.Io.{WritesAtMost}
+use Rattle.std.specs.Io.{ReadsAtMost, WritesAtMost}
 use Rattle.std.specs.Io.KnownBytes.{Appends, WriteAppends}
 use Rattle.std.proofs.KnownBytes.{Appends-kept, Appends-trans}
 use Rattle.std.specs.declared.io.Error.{Error}
 use Rattle.streams.specs.declared.Failure.TheVariants.{Interrupted, Errno}
-use Rattle.streams.specs.Moves.{errno_of, is_signal, left_of, moved_in, unmoved_by}
+use Rattle.streams.specs.Moves.{MovedWithin, errno_of, is_signal, left_of, moved_in, unmoved_by}
 
 -- # What a call did
 
@@ -30,6 +30,11 @@ is_signal_lem (negsuc n) f h =
 pub no_signal : (z : ℤ) → (of_z w32 z ≡ 4 → ⊥) → is_signal z ≡ false
 no_signal (pos n) h = ne_eqb n 4 h
 no_signal (negsuc n) h = refl
+
+-- what a read moved, which its buffer holds, lies in it
+pub moved_within : (got : Result ℕ Error) (buffer : List ℕ) → ReadsAtMost got buffer → MovedWithin (moved_in got (length buffer)) buffer
+moved_within (Ok n) buffer h = omega arith
+moved_within (Err e) buffer h = tt
 
 -- # The bytes that a writer holds
 

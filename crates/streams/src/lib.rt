@@ -84,7 +84,7 @@ pub fn write<O: Write, E: Write>(to: &mut O, errors: &mut E, text: &[u8]) -> boo
         match left_of(wrote, left) {
             Ok(n) => left = n,
             Err(reason) => {
-                tell_reason(errors, "failed write, errno ", reason);
+                tell_reason(errors, b"failed write, errno ", reason);
                 return false;
             }
         }
@@ -110,13 +110,18 @@ pub fn tell_failed_read<E: Write>(errors: &mut E, out: &mut Output, reason: i32)
     ensures same_reference { out.new.room.ghost_name ≡ out.old.room.ghost_name }
     ensures told { seen out.new ≡ collected (seen out.old) failed_read }
 {
-    tell_reason(errors, "failed read, errno ", reason);
+    tell_reason(errors, b"failed read, errno ", reason);
     out.put(b"failed read\n");
 }
 
 // A line among the errors: what failed, errno's number, and the system's text for it. Where that fails nothing can be told.
-fn tell_reason<E: Write>(errors: &mut E, what: &str, reason: i32) {
-    let _ = write!(errors, "{what}{}", reason.max(0));
+// What failed and the number are one write: `write!` to `errors` itself would make a call of each.
+fn tell_reason<E: Write>(errors: &mut E, what: &[u8], reason: i32) {
+    let mut line = [0u8; 40];
+    let mut told = Output::new(&mut line);
+    told.put(what);
+    told.put_number(u64::try_from(reason).unwrap_or(0));
+    let _ = errors.write_all(told.written());
     let _ = errors.write_all(b": ");
     tell_text(errors, reason);
     let _ = errors.write_all(b"\n");

@@ -61,7 +61,7 @@ module _ (s : Session) (w table : List ℕ) (hit : Bool) where
           absurd none
 
   -- the rows in the table are those of the answer
-  answered_rows : answering s w (length table) hit ≡ Give
+  pub answered_rows : answering s w (length table) hit ≡ Give
       → rows_text (length (answer_rows s w hit)) (answered_table s w table hit) ≡ flatten (map row_text (answer_rows s w hit))
   unfolding answered_table put_rows
   answered_rows e = rw e (rows_of (answer_rows s w hit) (drop (row_size * length (answer_rows s w hit)) table))

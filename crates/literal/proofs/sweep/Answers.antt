@@ -12,7 +12,7 @@ loop-at-preserved g c = (
   nowhere_more _ _ _ c.loop-at.at _ c.loop-at.invariant.1
       (elim c.else-any_hit.branch [
         | else-any_hit-via-then-any_hit+else-closer w ↦ (c.requires.told _ _ _ (omega arith) (omega arith) w.closer.ensures).none w.if-closer.false
-        | else-any_hit-via-else-any_hit w ↦ miss _ _ _ _ c.args.sought.first_in c.args.sought.second_in c.any_hit.ensures w.if-any_hit.false
+        | else-any_hit-via-else-any_hit w ↦ miss _ _ _ _ c.args.sought.one c.args.sought.other c.any_hit.ensures w.if-any_hit.false
       ]),
 )
 
@@ -24,11 +24,11 @@ returns g c =
       | then-loop-at-test+else-any_hit+else-at-step-last w ↦ λ j a b. nowhere_more _ _ _ c.loop-at.at _ c.loop-at.invariant.1
           (elim w.else-any_hit.branch [
             | else-any_hit-via-then-any_hit+else-closer v ↦ (c.requires.told _ _ _ (omega arith) (omega arith) v.closer.ensures).none v.if-closer.false
-            | else-any_hit-via-else-any_hit v ↦ miss _ _ _ _ c.args.sought.first_in c.args.sought.second_in w.any_hit.ensures v.if-any_hit.false
+            | else-any_hit-via-else-any_hit v ↦ miss _ _ _ _ c.args.sought.one c.args.sought.other w.any_hit.ensures v.if-any_hit.false
           ]) j a (omega arith)
     ])
     (elim c.if-any_hit-2.branch [
       | then-any_hit-2 w ↦ rw w.result-is (c.requires.told _ _ _ (omega arith) (omega arith) w.closer-then-any_hit-2.ensures)
       | else-any_hit-2 w ↦
-          rw (w.result-is, w.if-any_hit-2.false) (swept_none (λ j a b. miss _ _ (c.args.to - g.row.N) g.row.N c.args.sought.first_in c.args.sought.second_in c.any_hit-2.ensures w.if-any_hit-2.false j a (omega arith)))
+          rw (w.result-is, w.if-any_hit-2.false) (swept_none (λ j a b. miss _ _ (c.args.to - g.row.N) g.row.N c.args.sought.one c.args.sought.other c.any_hit-2.ensures w.if-any_hit-2.false j a (omega arith)))
     ])

@@ -12,5 +12,5 @@ returns-then-starts_at c =
 pub loop-at-preserved : goal.loop-at-preserved
 loop-at-preserved c = nowhere_more _ _ _ c.loop-at.at _ c.loop-at.invariant (elim c.else-any_hit.branch [
   | else-any_hit-via-then-any_hit+else-starts_at w ↦ no_start _ _ _ (sym w.starts_at.ensures ∙ w.if-starts_at.false)
-  | else-any_hit-via-else-any_hit w ↦ miss _ _ _ 1 c.args.sought.first_in c.args.sought.second_in c.any_hit.ensures w.if-any_hit.false
+  | else-any_hit-via-else-any_hit w ↦ miss _ _ _ 1 c.args.sought.one c.args.sought.other c.any_hit.ensures w.if-any_hit.false
 ])
