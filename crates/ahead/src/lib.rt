@@ -71,9 +71,9 @@ pub fn cause_of(walk: Walk, quit: bool) -> Cause
     }
 }
 
-// What was gone through, with a cause and a place.
+// What was gone through, with a cause, which may be any number, and a place.
 #[tactic(auto, unfolding(driver_core::specs::Walk::walk_end))]
-pub fn end_with(walk: Walk, cause: Cause, place: Option<u64>) -> End
+pub fn end_with(walk: Walk, cause: u64, place: Option<u64>) -> End
     ensures { result ≡ walk_end walk cause place }
 {
     End {

@@ -15,7 +15,6 @@ use Rattle.definition.specs.declared.Going.{Going}
 use Rattle.definition.specs.declared.Going.TheVariants.{On, LimitMet, NonmatchMet}
 use Rattle.definition.specs.declared.Settings.{Settings}
 use Rattle.definition.specs.Bounds.{contextual}
-use Rattle.definition.specs.Numbers.{cause_number}
 use Rattle.definition.specs.Rows.{Line, row, break, placed}
 use Rattle.definition.specs.Text.{first_place, lines, text}
 
@@ -170,11 +169,18 @@ quit_met Ignore input = false
 quit_met (Quit b) input = ltb (first_place b input) (length input)
 quit_met (Convert b) input = false
 
--- "cause (0 end of input, 1 Quit byte, 2 limit, 3 nonmatch)"
+-- why a search ended, where it met a Quit byte or not
 abbrev pub cause_of : Going → Bool → Cause
 cause_of On quit = cond quit QuitByte InputEnd
 cause_of LimitMet quit = Limit
 cause_of NonmatchMet quit = Nonmatch
+
+-- "cause (0 end of input, 1 Quit byte, 2 limit, 3 nonmatch)"
+abbrev pub cause_number : Cause → ℕ
+cause_number InputEnd = 0
+cause_number QuitByte = 1
+cause_number Limit = 2
+cause_number Nonmatch = 3
 
 -- "the Quit byte's under cause 1, under Convert the first replaced byte among those gone through, else none"
 abbrev pub binary_place : Binary → ℕ → Cause → ℕ → List ℕ → Option ℕ
@@ -183,14 +189,28 @@ binary_place (Quit b) terminator cause bytes input = cond (eqb (cause_number cau
 binary_place (Convert b) terminator cause bytes input =
     cond (not (eqb b terminator) && ltb (first_place b input) bytes) (Some (first_place b input)) None
 
-abbrev pub end_with : ℕ → ℕ → ℕ → Cause → Option ℕ → End
+abbrev pub end_with : ℕ → ℕ → ℕ → ℕ → Option ℕ → End
 end_with bytes count matches cause place =
     record { bytes = bytes; lines = count; matches = matches; cause = cause; offset = place }
 
 unfoldable pub end_record : Settings → List ℕ → ℕ → ℕ → ℕ → Going → End
 end_record c input bytes count matches going =
-    end_with bytes count matches (cause_of going (quit_met c.binary input))
+    end_with bytes count matches (cause_number (cause_of going (quit_met c.binary input)))
     (binary_place c.binary c.terminator (cause_of going (quit_met c.binary input)) bytes input)
+
+-- "binary offset: .. else none, written as flag 0 and number 0"
+abbrev pub flag_of : Option ℕ → ℕ
+flag_of None = 0
+flag_of (Some p) = 1
+
+abbrev pub offset_of : Option ℕ → ℕ
+offset_of None = 0
+offset_of (Some p) = p
+
+-- an end record as the six numbers that 01 writes
+abbrev pub end_numbers : End → List ℕ
+end_numbers e =
+    e.bytes ∷ (e.lines ∷ (e.matches ∷ (e.cause ∷ (flag_of e.offset ∷ (offset_of e.offset ∷ [])))))
 
 -- the bytes of some lines
 unfoldable pub bytes_of : List Line → ℕ

@@ -4,8 +4,7 @@ use Rattle.std.specs.Prelude.{ℕ, ◌≡◌, Bool, true, false, ◌||◌, List,
 use Rattle.definition.specs.declared.Binary.{Binary}
 use Rattle.definition.specs.declared.Binary.TheVariants.{Ignore, Quit, Convert}
 use Rattle.definition.specs.declared.Settings.{Settings}
-use Rattle.definition.specs.Definition.{rows_of, end_of}
-use Rattle.definition.specs.Numbers.{end_numbers}
+use Rattle.definition.specs.Definition.{rows_of, end_numbers, end_of}
 use Rattle.definition.specs.Rows.{flat}
 use Rattle.definition.specs.State.{begun, kept_rows}
 use Rattle.definition.specs.Text.{handed, lines, text}

@@ -16,11 +16,11 @@ kind_number Break = 5
 
 -- "A break is 5, 0, 0, 0."
 abbrev pub break : Row
-break = record { kind = Break; offset = 0; length = 0; number = 0 }
+break = record { kind = kind_number Break; offset = 0; length = 0; number = 0 }
 
 -- a row as the four numbers that a table holds
 abbrev pub flat : Row → List ℕ
-flat r = kind_number r.kind ∷ (r.offset ∷ (r.length ∷ (r.number ∷ [])))
+flat r = r.kind ∷ (r.offset ∷ (r.length ∷ (r.number ∷ [])))
 
 -- how many numbers a row is
 abbrev pub row_size : ℕ
@@ -38,7 +38,7 @@ pub record Line : Type 0 where
 
 -- the row of a line, by its kind
 abbrev pub row : Kind → Line → Row
-row k l = record { kind = k; offset = l.offset; length = l.length; number = l.number }
+row k l = record { kind = kind_number k; offset = l.offset; length = l.length; number = l.number }
 
 -- the lines from an offset and a number on
 unfoldable pub placed : ℕ → ℕ → List (List ℕ) → List Line

@@ -92,10 +92,11 @@ impl From<Kind> for u64 {
     }
 }
 
-// A row: the line's first byte, counting from 0, its length with terminator, and its number from 1.
+// A row: its kind by number, as `Kind` has them, and a number so that a row of any other can be put; the line's first byte,
+// counting from 0, its length with terminator, and its number from 1.
 #[derive(Clone, Copy)]
 pub struct Row {
-    pub kind: Kind,
+    pub kind: u64,
     pub offset: u64,
     pub length: u64,
     pub number: u64,
@@ -112,7 +113,7 @@ pub enum Cause {
 
 // The number that stands for a cause in an end record.
 impl From<Cause> for u64 {
-    ghost use Rattle.definition.specs.Numbers.{cause_number};
+    ghost use Rattle.definition.specs.Definition.{cause_number};
 
     ghost from_gives = { λ cause number. number ≡ cause_number cause };
 
@@ -133,7 +134,8 @@ pub struct End {
     pub bytes: u64,
     pub lines: u64,
     pub matches: u64,
-    pub cause: Cause,
+    // by number, as `Cause` has them, and a number so that any other can be told
+    pub cause: u64,
     // where a byte was met that marks binary data, counting from 0
     pub offset: Option<u64>,
 }

@@ -10,9 +10,8 @@ use Rattle.definition.specs.declared.Refusal.{Refusal}
 use Rattle.definition.specs.declared.Refusal.TheVariants.{TableShort, Unsound}
 use Rattle.definition.specs.declared.Settings.{Settings}
 use Rattle.definition.specs.Bounds.{max_input}
-use Rattle.definition.specs.Definition.{binary_place, cause_of, quit_met}
+use Rattle.definition.specs.Definition.{binary_place, cause_number, cause_of, end_numbers, quit_met}
 use Rattle.definition.specs.Examples.{Example, T, answers_at, context, r, settings}
-use Rattle.definition.specs.Numbers.{end_numbers}
 use Rattle.definition.specs.Rows.{row_size}
 use Rattle.definition.specs.Text.{text}
 use Rattle.driver_core.specs.declared.Given.{Given}
@@ -36,7 +35,7 @@ abbrev pub at_end : List ℕ → Walk → List ℕ → Walked
 at_end input k rows =
     let c = k.settings in
     let cause = cause_of k.going (quit_met c.binary input) in
-    record { rows = rows; end = end_numbers (walk_end k cause (binary_place c.binary c.terminator cause k.bytes input)) }
+    record { rows = rows; end = end_numbers (walk_end k (cause_number cause) (binary_place c.binary c.terminator cause k.bytes input)) }
 
 -- line after line, with a table of B + 2 rows: fuel; the input and the answers; the walk, the bytes since the last line with a row, the
 -- bytes ahead, the numbers so far

@@ -2,7 +2,6 @@
 -- ahead of it, and what it leaves for the end record. The bytes since the last line with a row, and the bytes ahead, are lent, wherever
 -- they lie.
 use Rattle.std.specs.Prelude.{◌≡◌, ℕ, ◌+◌, ◌≤◌, Bool, true, false, cond, not, ◌&&◌, ◌||◌, List, [], ◌∷◌, length, take, ◌==◌, nat_le, nat_lt, Option, Some, None}
-use Rattle.definition.specs.declared.Cause.{Cause}
 use Rattle.definition.specs.declared.End.{End}
 use Rattle.definition.specs.declared.Going.{Going}
 use Rattle.definition.specs.declared.Going.TheVariants.{On, LimitMet, NonmatchMet}
@@ -93,5 +92,5 @@ unfoldable pub remains_ahead : Walk → Bool → ℕ → Bool
 remains_ahead k more ahead = is_on k.going && (more || nat_lt 0 ahead)
 
 -- what was gone through, with a cause and a place
-unfoldable pub walk_end : Walk → Cause → Option ℕ → End
+unfoldable pub walk_end : Walk → ℕ → Option ℕ → End
 walk_end k cause place = end_with k.bytes k.lines k.matches cause place

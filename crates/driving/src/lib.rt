@@ -10,13 +10,14 @@ use definition::Refusal;
 use machine::{Fed, Next};
 use searcher::Searcher;
 
-// An answer was refused. As unsound, no line waits: the end record comes where it is served, as it is after a stop; else what is
-// at hand is offered, and where nothing is, more is wanted. Window and piece are lent for one call, as `offer` takes them.
-pub fn feed(s: Searcher, refusal: Refusal, window: &mut [u8], piece: &[u8]) -> Fed<Searcher>
+// An answer was refused, by the number given. By 6, unsound, no line waits: the end record comes where it is served, as it is
+// after a stop; else what is at hand is offered, and where nothing is, more is wanted. Any other number is told. Window and piece
+// are lent for one call, as `offer` takes them.
+pub fn feed(s: Searcher, refusal: u64, window: &mut [u8], piece: &[u8]) -> Fed<Searcher>
     ensures value { result ≡ door_fed (fed s.session refusal window.old piece.now) }
     ensures window_after { window.new ≡ fed_window s.session refusal window.old piece.now }
 {
-    if refusal != Refusal::Unsound {
+    if refusal != u64::from(Refusal::Unsound) {
         return unchanged(s, Next::Refuses(refusal));
     }
     match s.end_record() {
@@ -38,7 +39,7 @@ fn feed_on(s: Searcher, window: &mut [u8], piece: &[u8]) -> Fed<Searcher>
             taken: offered.taken,
             next: Next::Goes,
         },
-        Err(not_taken) => unchanged(s, Next::Refuses(not_taken.refusal)),
+        Err(not_taken) => unchanged(s, Next::Refuses(u64::from(not_taken.refusal))),
     }
 }
 
@@ -52,7 +53,7 @@ pub fn tell_end(s: Searcher) -> Fed<Searcher>
             taken: 0,
             next: Next::Goes,
         },
-        Err(not_told) => unchanged(s, Next::Refuses(not_told.refusal)),
+        Err(not_told) => unchanged(s, Next::Refuses(u64::from(not_told.refusal))),
     }
 }
 

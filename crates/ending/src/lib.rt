@@ -67,7 +67,7 @@ fn record_of(s: Session) -> End
     ensures { result ≡ record_of s }
 {
     let cause = ahead::cause_of(s.walk, is_quit(s.places.input));
-    ahead::end_with(s.walk, cause, recorded_place(s, cause))
+    ahead::end_with(s.walk, u64::from(cause), recorded_place(s, cause))
 }
 
 fn is_quit(input: Input) -> bool
@@ -108,7 +108,7 @@ pub fn record_numbers(answer: Result<End, Refusal>) -> [u64; 7]
             end.bytes,
             end.lines,
             end.matches,
-            u64::from(end.cause),
+            end.cause,
             u64::from(end.offset.is_some()),
             end.offset.unwrap_or(0),
         ],

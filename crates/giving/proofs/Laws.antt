@@ -9,7 +9,7 @@ use Rattle.definition.specs.declared.Fate.TheVariants.{Match, After, Other, NoRo
 use Rattle.definition.specs.declared.Row.{Row}
 use Rattle.definition.specs.Bounds.{contextual}
 use Rattle.definition.specs.Definition.{last_of}
-use Rattle.definition.specs.Rows.{break, flat, placed, row, row_size}
+use Rattle.definition.specs.Rows.{break, flat, kind_number, placed, row, row_size}
 use Rattle.definition.specs.State.{breaks, fate_of, next_line}
 use Rattle.definition.specs.Text.{lines, part, put_at}
 use Rattle.definition.proofs.Lists.{length_put_at, put_at_append, put_at_none}
@@ -84,7 +84,7 @@ one_flat r = append-nil (flat r)
 
 module _ (f : Fate) (kind : Kind) (k : Walk) (since : List ℕ) (len : ℕ)
     (none : before_rows f k.settings (state_since k since) ≡ 0)
-    (one : fated_rows f k since len ≡ line_row kind k len ∷ []) where
+    (one : fated_rows f k since len ≡ line_row (kind_number kind) k len ∷ []) where
   line_decision : (table : ℕ) → fated_decision f k since len table ≡ cond (ltb table row_size) (AnswerRefused TableShort) Give
   unfolding fated_decision
   line_decision table = rw (none, le-ltb k.lines 0 (omega arith), one)
@@ -100,21 +100,21 @@ module _ (f : Fate) (kind : Kind) (k : Walk) (since : List ℕ) (len : ℕ)
   pub line_given_lem : (table : ℕ) → line_given f table ≡ fated_given f k since len table
   line_given_lem table = ap (with_fate f) (line_rows_lem table)
 
-  pub line_table_lem : (table : List ℕ) → line_table (line_row kind k len) table ≡ fated_table f k since len table
+  pub line_table_lem : (table : List ℕ) → line_table (line_row (kind_number kind) k len) table ≡ fated_table f k since len table
   unfolding fated_table
   line_table_lem table = rw (line_decision (length table)) (go (ltb (length table) row_size))
     where
-      go : (b : Bool) → cond b table (put_at 0 (flat (line_row kind k len)) table) ≡ fated_table_by (cond b (AnswerRefused TableShort) Give) f k since len table
+      go : (b : Bool) → cond b table (put_at 0 (flat (line_row (kind_number kind) k len)) table) ≡ fated_table_by (cond b (AnswerRefused TableShort) Give) f k since len table
       go true = refl
       go false =
-          sym (ap (λ rows. put_rows rows table) one ∙ put_rows_lem (line_row kind k len ∷ []) table
-          ∙ ap (λ xs. put_at 0 xs table) (one_flat (line_row kind k len)))
+          sym (ap (λ rows. put_rows rows table) one ∙ put_rows_lem (line_row (kind_number kind) k len ∷ []) table
+          ∙ ap (λ xs. put_at 0 xs table) (one_flat (line_row (kind_number kind) k len)))
 
-pub after_row : (k : Walk) (since : List ℕ) (len : ℕ) → fated_rows After k since len ≡ line_row Kind.After k len ∷ []
+pub after_row : (k : Walk) (since : List ℕ) (len : ℕ) → fated_rows After k since len ≡ line_row (kind_number Kind.After) k len ∷ []
 unfolding fated_rows next_line state_since
 after_row k since len = refl
 
-pub other_row : (k : Walk) (since : List ℕ) (len : ℕ) → fated_rows Other k since len ≡ line_row Kind.Other k len ∷ []
+pub other_row : (k : Walk) (since : List ℕ) (len : ℕ) → fated_rows Other k since len ≡ line_row (kind_number Kind.Other) k len ∷ []
 unfolding fated_rows next_line state_since
 other_row k since len = refl
 

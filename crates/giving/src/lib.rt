@@ -5,6 +5,7 @@
 ghost use Rattle.std.specs.Prelude.{◌≡◌, ◌≤◌};
 ghost use Rattle.std.proofs.Math.ListN as ListN;
 ghost use Rattle.definition.specs.Bounds.{max_input};
+ghost use Rattle.definition.specs.Rows.{kind_number};
 ghost use Rattle.driver_core.specs.Answer.{given, given_table};
 ghost use Rattle.driver_core.specs.Walk.{WalkAgree};
 ghost use Rattle.match_rows.specs.MatchTable.{line_row};
@@ -55,12 +56,13 @@ fn give(
 fn give_line(walk: Walk, table: &mut [u64], length: usize, kind: Kind) -> Result<usize, Refusal>
     requires { walk.lines ≤ max_input }
     ensures value { result ≡ line_rows (ListN.length table.old) }
-    ensures table_after { table.new ≡ line_table (line_row kind walk length) table.old }
+    ensures table_after { table.new ≡ line_table (line_row (kind_number kind) walk length) table.old }
 {
     if table.len() < ROW {
         return Err(Refusal::TableShort);
     }
-    rows::put_row(table, 0, match_rows::line_row(walk, length, kind));
+    let row = match_rows::line_row(walk, length, u64::from(kind));
+    rows::put_row(table, 0, row);
     Ok(1)
 }
 

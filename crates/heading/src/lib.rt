@@ -40,11 +40,11 @@ pub fn first(s: Search, window: &[u8], literal: &[u8], input: &mut [u8], out: &m
             let end = from + length;
             match forms::first_line(&input[from..end]) {
                 Some(settings) => open(s, settings, window.len(), end + 1, out),
-                None => standing::refused(s, out, Refusal::BadSettings),
+                None => standing::refused(s, out, u64::from(Refusal::BadSettings)),
             }
         }
         Seen::Unfinished => standing::wanting(s, input),
-        Seen::TooLong => standing::refused(s, out, Refusal::BadSettings),
+        Seen::TooLong => standing::refused(s, out, u64::from(Refusal::BadSettings)),
     }
 }
 
@@ -55,7 +55,7 @@ fn open(s: Search, settings: Settings, window: usize, from: usize, out: &mut [u8
 {
     match Searcher::open(settings, window) {
         Ok(searcher) => standing::opened(s, searcher, from),
-        Err(refused) => standing::refused(s, out, refused.refusal),
+        Err(refused) => standing::refused(s, out, u64::from(refused.refusal)),
     }
 }
 
@@ -80,6 +80,6 @@ pub fn second(
             standing::begun(s, length, rare_bytes::choose(&literal[..length]), end + 1)
         }
         Seen::Unfinished => standing::wanting(s, input),
-        Seen::TooLong => standing::refused(s, out, Refusal::BadSettings),
+        Seen::TooLong => standing::refused(s, out, u64::from(Refusal::BadSettings)),
     }
 }

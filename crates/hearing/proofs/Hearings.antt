@@ -8,8 +8,6 @@ use native.Mathlib.Omega.{arith}
 use lib.IntN.{ℤ}
 use lib.ListN.{length, take}
 use Rattle.definition.specs.declared.End.{End}
-use Rattle.definition.specs.declared.Refusal.{Refusal}
-use Rattle.definition.specs.Numbers.{refusal_number}
 use Rattle.definition.specs.Text.{part}
 use Rattle.driving.specs.Door.{door_fed}
 use Rattle.machine.specs.declared.Fed.{Fed}
@@ -113,7 +111,7 @@ module _ {s : Search} {input out : List ℕ} (w literal : List ℕ) where
       unfolding hears_of
       text_goes n = rw (in_text, e, sym (ap (λ x. x.next) e) ∙ n)
 
-      pub text_refuses : {k : Refusal} → f.next ≡ Refuses k → hears_of ended st ≡ ends (refused_text (refusal_number k))
+      pub text_refuses : {k : ℕ} → f.next ≡ Refuses k → hears_of ended st ≡ ends (refused_text k)
       unfolding hears_of
       text_refuses n = rw (in_text, sym (ap (λ x. x.next) e) ∙ n)
 
@@ -130,9 +128,9 @@ module _ {s : Search} {input out : List ℕ} (w literal : List ℕ) where
             collects = record { within = omega (arith, hearing.nothing); kept = hearing.nothing.kept };
           }
 
-      pub heard_refused : {k : Refusal} → f.next ≡ Refuses k → {r : Search} {after : List ℕ} → OverWith s (refused_text (refusal_number k)) out r after
+      pub heard_refused : {k : ℕ} → f.next ≡ Refuses k → {r : Search} {after : List ℕ} → OverWith s (refused_text k) out r after
           → Heard s (Ok 0) w literal input r after
-      heard_refused {k} n t = heard_over w literal hearing (refused_text (refusal_number k)) (text_refuses n) t
+      heard_refused {k} n t = heard_over w literal hearing (refused_text k) (text_refuses n) t
 
       pub heard_end : {end : End} → f.next ≡ Ends end → {r : Search} {after : List ℕ} → OverWith s (end_text end) out r after
           → Heard s (Ok 0) w literal input r after

@@ -53,7 +53,7 @@ fn ended(s: Search, out: &mut [u8]) -> Search
     ensures { (window literal input : List ℕ) → Hearing s (Ok 0) input out.old → Heard s (Ok 0) window literal input result out.new }
 {
     match s.stage {
-        Stage::First | Stage::Second => standing::refused(s, out, Refusal::BadSettings),
+        Stage::First | Stage::Second => standing::refused(s, out, u64::from(Refusal::BadSettings)),
         Stage::Text => text_ended(s, out),
     }
 }

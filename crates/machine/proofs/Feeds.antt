@@ -4,7 +4,6 @@ use Rattle.std.specs.Prelude.{Result, Ok, Err}
 use Rattle.definition.specs.declared.End.{End}
 use Rattle.definition.specs.declared.Refusal.{Refusal}
 use Rattle.definition.specs.declared.Refusal.TheVariants.{Unsound}
-use Rattle.definition.specs.Numbers.{refusal_number}
 use Rattle.driver_core.specs.Answer.{AnswerRefused, Give}
 use Rattle.session.specs.declared.Offered.{Offered}
 use Rattle.session.specs.declared.Refused.{Refused}
@@ -29,22 +28,22 @@ module _ (p : Program) (s : Session) (w rest : List ℕ) where
       ∙ ap (λ o. answers o hit p (at s w rest)) g
 
   -- none waits
-  pub turn_feeds : ((hit : Bool) → answering s w table_size hit ≡ AnswerRefused Unsound) → turns p (at s w rest) ≡ feeds p (at s w rest) Unsound
+  pub turn_feeds : ((hit : Bool) → answering s w table_size hit ≡ AnswerRefused Unsound) → turns p (at s w rest) ≡ feeds p (at s w rest) 6
   unfolding turns
   turn_feeds g =
       let hit = p.matcher (shown_line s w) in
       ap (λ o. answers o hit p (at s w rest)) (g hit)
 
-  pub feeds_ends : (recorded s).refusal ≡ 0 → feeds p (at s w rest) Unsound ≡ ends (p.closes (recorded s).end)
+  pub feeds_ends : (recorded s).refusal ≡ 0 → feeds p (at s w rest) 6 ≡ ends (p.closes (recorded s).end)
   unfolding feeds fed recorded
   feeds_ends e = rw (record_ok (record_result s) e)
 
-  pub feeds_wants : ((recorded s).refusal ≡ 0 → ⊥) → rest ≡ [] → feeds p (at s w rest) Unsound ≡ wants (at s w rest)
+  pub feeds_wants : ((recorded s).refusal ≡ 0 → ⊥) → rest ≡ [] → feeds p (at s w rest) 6 ≡ wants (at s w rest)
   unfolding feeds fed fed_window recorded
   feeds_wants e n = rw ((record_err (record_result s) e).1, eq-eqb (length rest) 0 (ap length n))
 
   pub feeds_refused : (k : ℕ) → ((recorded s).refusal ≡ 0 → ⊥) → 0 < length rest → (offered s w rest).refusal ≡ k → (k ≡ 0 → ⊥)
-      → feeds p (at s w rest) Unsound ≡ ends (p.refuses k)
+      → feeds p (at s w rest) 6 ≡ ends (p.refuses k)
   unfolding feeds fed fed_window recorded offered offer_result
   feeds_refused k e n o z =
       let refused = offer_err (offer_result s w rest) (λ x. z (sym o ∙ x)) in
@@ -56,7 +55,7 @@ module _ (p : Program) (s : Session) (w rest : List ℕ) where
       (ap (λ j. ends (p.refuses j)) (sym refused.2 ∙ o))
 
   pub feeds_goes : ((recorded s).refusal ≡ 0 → ⊥) → 0 < length rest → (offered s w rest).refusal ≡ 0
-      → feeds p (at s w rest) Unsound ≡ goes [] (at (offered s w rest).session (offered_window s w rest) (drop (offered s w rest).taken rest))
+      → feeds p (at s w rest) 6 ≡ goes [] (at (offered s w rest).session (offered_window s w rest) (drop (offered s w rest).taken rest))
   unfolding feeds fed fed_window recorded offered offer_result
   feeds_goes e n o =
       rw (
@@ -74,9 +73,9 @@ told_taken : (s : Session) (w piece : List ℕ) → (offer_told (offer_result s 
 unfolding offered offer_result
 told_taken s w piece = taken_le s w piece
 
-pub fed_taken : (s : Session) (refusal : Refusal) (w piece : List ℕ) → (fed s refusal w piece).taken ≤ length piece
+pub fed_taken : (s : Session) (refusal : ℕ) (w piece : List ℕ) → (fed s refusal w piece).taken ≤ length piece
 unfolding fed
-fed_taken s refusal w piece = go (eqb (refusal_number refusal) 6)
+fed_taken s refusal w piece = go (eqb refusal 6)
   where
     by : (r : Result (Offered Session) (Refused Session)) → (offer_told r).taken ≤ length piece → (fed_by s r).taken ≤ length piece
     by (Ok o) h = h

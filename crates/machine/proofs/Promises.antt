@@ -1,11 +1,10 @@
 -- The promises of specs/Promises.antt.
-use Rattle.definition.specs.Numbers.{cause_number}
 use Rattle.std.proofs.Common.{◌≡◌, ℕ, ◌+◌, ◌*◌, ◌≤◌, Bool, true, false, ◌⊎◌, List, [], ◌∷◌, ◌++◌, map, length, sym, refl, ap, ◌∙◌, subst, inl, inr, ⊎_elim, append-nil, arith, length-append}
 use mathlib.Core.List.{flatten}
 use Rattle.definition.specs.declared.Going.{Going}
 use Rattle.definition.specs.declared.Going.TheVariants.{On, LimitMet, NonmatchMet}
 use Rattle.definition.specs.declared.Settings.{Settings}
-use Rattle.definition.specs.Definition.{cause_of, end_of, end_record, gone, gone_lines, quit_met, rows_of}
+use Rattle.definition.specs.Definition.{cause_number, cause_of, end_of, end_record, gone, gone_lines, quit_met, rows_of}
 use Rattle.definition.specs.State.{State, begun, rows, state}
 use Rattle.definition.specs.Text.{lines, text}
 use Rattle.definition.proofs.Kept.{rows_append, rows_stopped, state_append, state_stopped}

@@ -1,6 +1,5 @@
 -- What a turn does at a moment of a run: it goes on and what is left gets lighter, or it prints what must be printed and is over, or it
 -- wants a read, and then nothing is at hand.
-use Rattle.definition.specs.declared.Refusal.TheVariants.{Unsound}
 use Rattle.std.proofs.Common.{◌≡◌, ℕ, ◌+◌, ◌*◌, ◌<◌, ◌≤◌, Bool, true, false, List, [], ◌∷◌, ◌++◌, length, take, drop, sym, refl, ap, ◌∙◌, subst, ⊎_elim, append-nil, arith}
 use mathlib.Core.List.{map}
 use lib.Seq.{drop-append-le, take-append_seam}
@@ -117,7 +116,7 @@ module _ (p : Program) (input : List ℕ) (how : Ending) (s : Session) (w rest f
 
   -- # None waits
 
-  fed_turn : waits s w ≡ false → turns p (at s w rest) ≡ feeds p (at s w rest) Unsound
+  fed_turn : waits s w ≡ false → turns p (at s w rest) ≡ feeds p (at s w rest) 6
   fed_turn v = turn_feeds p s w rest (λ hit. answer_is s w table_size hit _ (none (sound_now input answers s w (rest ++ future) count given i) v))
 
   did_end : waits s w ≡ false → (recorded s).refusal ≡ 0 → Does

@@ -25,7 +25,7 @@ stays s next = record { session = s; taken = 0; next = next }
 
 abbrev pub fed_by : Session → Result (Offered Session) (Refused Session) → Fed Session
 fed_by s (Ok o) = record { session = o.next; taken = o.taken; next = Goes }
-fed_by s (Err r) = stays s (Refuses r.refusal)
+fed_by s (Err r) = stays s (Refuses (refusal_number r.refusal))
 
 -- what is at hand is offered, and where nothing is, more is read
 abbrev pub fed_more : Session → List ℕ → List ℕ → Fed Session
@@ -44,17 +44,17 @@ fed_on_window (Ok end) s w piece = w
 fed_on_window (Err k) s w piece = fed_more_window s w piece
 
 -- An answer was refused. By 6, no line waits; any other refusal is told.
-unfoldable pub fed : Session → Refusal → List ℕ → List ℕ → Fed Session
+unfoldable pub fed : Session → ℕ → List ℕ → List ℕ → Fed Session
 fed s refusal w piece =
-    cond (refusal_number refusal == 6) (fed_on (record_result s) s w piece) (stays s (Refuses refusal))
+    cond (refusal == 6) (fed_on (record_result s) s w piece) (stays s (Refuses refusal))
 
-unfoldable pub fed_window : Session → Refusal → List ℕ → List ℕ → List ℕ
-fed_window s refusal w piece = cond (refusal_number refusal == 6) (fed_on_window (record_result s) s w piece) w
+unfoldable pub fed_window : Session → ℕ → List ℕ → List ℕ → List ℕ
+fed_window s refusal w piece = cond (refusal == 6) (fed_on_window (record_result s) s w piece) w
 
 -- the end is told
 abbrev pub fed_told : Session → Result Session (Refused Session) → Fed Session
 fed_told s (Ok t) = record { session = t; taken = 0; next = Goes }
-fed_told s (Err r) = stays s (Refuses r.refusal)
+fed_told s (Err r) = stays s (Refuses (refusal_number r.refusal))
 
 unfoldable pub fed_end : Session → Fed Session
 fed_end s = fed_told s (tell_result s)
@@ -84,10 +84,10 @@ table_size = row_size * (max_context + 2)
 abbrev pub onward : Next → Program → Standing → Turn Standing
 onward Goes p st = goes [] st
 onward Wants p st = wants st
-onward (Refuses k) p st = ends (p.refuses (refusal_number k))
+onward (Refuses k) p st = ends (p.refuses k)
 onward (Ends end) p st = ends (p.closes end)
 
-unfoldable pub feeds : Program → Standing → Refusal → Turn Standing
+unfoldable pub feeds : Program → Standing → ℕ → Turn Standing
 feeds p st k =
     let f = fed st.session k st.window st.rest in
     onward f.next p
@@ -97,7 +97,7 @@ abbrev pub answers : AnswerDecision → Bool → Program → Standing → Turn S
 answers Give hit p st =
     goes (p.says (shown_line st.session st.window) (answer_rows st.session st.window hit))
     (record { session = answer_session st.session st.window hit; window = st.window; rest = st.rest })
-answers (AnswerRefused k) hit p st = feeds p st k
+answers (AnswerRefused k) hit p st = feeds p st (refusal_number k)
 
 -- the waiting line is answered as the matcher says of the part shown
 unfoldable pub turns : Program → Standing → Turn Standing

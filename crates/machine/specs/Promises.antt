@@ -8,7 +8,6 @@ use Rattle.definition.specs.declared.Row.{Row}
 use Rattle.definition.specs.declared.Settings.{Settings}
 use Rattle.definition.specs.Bounds.{max_input}
 use Rattle.definition.specs.Definition.{end_of, gone_lines, quit_met, rows_of}
-use Rattle.definition.specs.Numbers.{cause_number}
 use Rattle.definition.specs.State.{State, begun, step_rows, step_state}
 use Rattle.definition.specs.Text.{first_place, handed, lines, text}
 use Rattle.session.specs.Calls.{opened}
@@ -144,7 +143,7 @@ CauseTold =
     (c : Settings) (input : List ℕ) (answers : ℕ → Bool) (window : ℕ) (how : Ending) (before later : List (List ℕ))
     → Gone c input answers window before later
     → (HasEnded c input how) ⊎ ((gone_lines c answers before).going ≢ On)
-    → (how ≢ whole) → cause_number (end_of c input answers).cause ≢ 0
+    → (how ≢ whole) → (end_of c input answers).cause ≢ 0
 
 -- Rows. Where a program prints rows one by one, what is said of lines gone through are their rows, printed; and where `Prints` has
 -- finished, these are the rows of the definition.

@@ -2,14 +2,15 @@
 // lists, and with it what every such program is promised.
 #![tactic(auto)]
 
-use definition::{End, Refusal};
+use definition::End;
 
-// What comes next where no line waits: go on, read more, tell a refusal, or tell the end record.
+// What comes next where no line waits: go on, read more, tell a refusal, or tell the end record. A refusal is a number, since
+// `feed` tells any that it is given.
 #[derive(Clone, Copy)]
 pub enum Next {
     Goes,
     Wants,
-    Refuses(Refusal),
+    Refuses(u64),
     Ends(End),
 }
 

@@ -4,7 +4,7 @@ use Rattle.definition.specs.declared.Kind.{Kind}
 use Rattle.definition.specs.declared.Row.{Row}
 use Rattle.definition.specs.Bounds.{contextual}
 use Rattle.definition.specs.Definition.{last_of}
-use Rattle.definition.specs.Rows.{break, flat, row_size}
+use Rattle.definition.specs.Rows.{break, flat, kind_number, row_size}
 use Rattle.definition.specs.Text.{lines, part, put_at}
 use Rattle.lines.specs.Lines.{last_start}
 use Rattle.rows.specs.Table.{before_numbers}
@@ -13,7 +13,7 @@ use Rattle.driver_core.specs.Walk.{WalkAgree}
 use Rattle.match_rows.specs.declared.Before.{Before}
 
 -- the line's own row
-abbrev pub line_row : Kind → Walk → ℕ → Row
+abbrev pub line_row : ℕ → Walk → ℕ → Row
 line_row kind k len = record { kind = kind; offset = k.bytes; length = len; number = k.lines + 1 }
 
 -- the last B of the lines since the last line with a row: where they start, and how many they are
@@ -35,7 +35,7 @@ break_table gap table = cond (nat_lt 0 gap) (put_at 0 (flat break) table) table
 unfoldable pub match_table : Walk → List ℕ → ℕ → Before → ℕ → List ℕ → List ℕ
 match_table k since len b gap table =
     let from = b.from in
-    put_at (row_size * gap + row_size * b.lines) (flat (line_row Kind.Match k len))
+    put_at (row_size * gap + row_size * b.lines) (flat (line_row (kind_number Kind.Match) k len))
     (put_at (row_size * gap)
     (before_numbers k.settings.terminator (k.bytes - (length since - from)) (k.lines + 1 - b.lines) (part from (length since) since))
     (break_table gap table))

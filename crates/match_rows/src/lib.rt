@@ -60,7 +60,7 @@ pub fn put_match(
     rows::put_row(
         table,
         at + definition::ROW * before.lines,
-        line_row(walk, length, Kind::Match),
+        line_row(walk, length, u64::from(Kind::Match)),
     );
 }
 
@@ -70,7 +70,7 @@ fn put_break(table: &mut [u64], gap: usize)
 {
     if 0 < gap {
         let row = Row {
-            kind: Kind::Break,
+            kind: u64::from(Kind::Break),
             offset: 0,
             length: 0,
             number: 0,
@@ -80,7 +80,7 @@ fn put_break(table: &mut [u64], gap: usize)
 }
 
 // A line's own row, of any kind.
-pub fn line_row(walk: Walk, length: usize, kind: Kind) -> Row
+pub fn line_row(walk: Walk, length: usize, kind: u64) -> Row
     requires { walk.lines ≤ max_input }
     ensures { result ≡ line_row kind walk length }
 {

@@ -4,8 +4,7 @@ use mathlib.Core.List.{List, [], ◌∷◌, ◌++◌, flatten, map}
 use lib.ListN.{get_or}
 use Rattle.definition.specs.declared.End.{End}
 use Rattle.definition.specs.declared.Row.{Row}
-use Rattle.definition.specs.Numbers.{cause_number}
-use Rattle.definition.specs.Rows.{kind_number, rows_in}
+use Rattle.definition.specs.Rows.{rows_in}
 use Rattle.output.specs.Output.{decimal}
 
 abbrev pub newline : ℕ
@@ -21,7 +20,7 @@ four_text a b c d =
 
 -- "kind, number, offset, length"
 abbrev pub row_text : Row → List ℕ
-row_text r = four_text (kind_number r.kind) r.number r.offset r.length
+row_text r = four_text r.kind r.number r.offset r.length
 
 -- the same of a row's four numbers as a table holds them: kind, offset, length, number
 abbrev pub numbers_text : List ℕ → List ℕ
@@ -33,7 +32,7 @@ rows_text count table = flatten (map numbers_text (rows_in count table))
 
 -- "then bytes, lines, matches, cause", after `end`
 abbrev pub end_text : End → List ℕ
-end_text e = 101 ∷ 110 ∷ 100 ∷ 32 ∷ four_text e.bytes e.lines e.matches (cause_number e.cause)
+end_text e = 101 ∷ 110 ∷ 100 ∷ 32 ∷ four_text e.bytes e.lines e.matches e.cause
 
 -- "a line `refused`, a space and its number"
 unfoldable pub refused_text : ℕ → List ℕ

@@ -3,24 +3,24 @@
 #![tactic(auto)]
 
 ghost use Rattle.std.specs.Prelude.{◌≡◌, ◌∷◌, ◌*◌, ◌+◌, ◌≤◌, length};
-ghost use Rattle.definition.specs.Numbers.{refusal_number};
 ghost use Rattle.definition.specs.Rows.{row_size};
 ghost use Rattle.output.specs.Output.{Told, decimal, seen};
 ghost use Rattle.printing.specs.Texts.{end_text, four_text, line_most, numbers_text, refused_text, row_most, rows_text, space};
 
-use definition::{End, ROW, Refusal};
+use definition::{End, ROW};
 use output::Output;
 
 // The longest text of a row: four numbers of at most 20 digits, three spaces and a newline.
 pub const LONGEST_ROW: usize = 84;
 
-pub fn refusal(out: &mut Output, refusal: Refusal)
+// A refusal by its number.
+pub fn refusal(out: &mut Output, refusal: u64)
     requires { out.old.pending.length + line_most ≤ length out.old.room.now }
     ensures same_reference { out.new.room.ghost_name ≡ out.old.room.ghost_name }
-    ensures told { Told (seen out.old) (refused_text (refusal_number refusal)) (seen out.new) }
+    ensures told { Told (seen out.old) (refused_text refusal) (seen out.new) }
 {
     text(out, b"refused ");
-    number(out, u64::from(refusal));
+    number(out, refusal);
     text(out, b"\n");
 }
 
@@ -37,7 +37,7 @@ pub fn end(out: &mut Output, end: End)
         cause,
         ..
     } = end;
-    four(out, bytes, lines, matches, u64::from(cause));
+    four(out, bytes, lines, matches, cause);
 }
 
 // The first rows of a table.

@@ -10,8 +10,7 @@ use Rattle.definition.specs.declared.Cause.{Cause}
 use Rattle.definition.specs.declared.Cause.TheVariants.{InputEnd, QuitByte, Limit, Nonmatch}
 use Rattle.definition.specs.declared.Going.{Going}
 use Rattle.definition.specs.declared.Going.TheVariants.{On, LimitMet, NonmatchMet}
-use Rattle.definition.specs.Definition.{binary_place, cause_of, end_record, end_with, quit_met}
-use Rattle.definition.specs.Numbers.{cause_number}
+use Rattle.definition.specs.Definition.{binary_place, cause_number, cause_of, end_record, end_with, quit_met}
 use Rattle.definition.specs.State.{State, begun, rows, state}
 use Rattle.definition.specs.Text.{first_place, lines, text, text_under, up_to}
 use Rattle.definition.proofs.Kept.{rows_stopped, state_append, state_stopped}
@@ -84,15 +83,15 @@ place_other (Convert b) t bytes cause past rest h e = go (eqb b t)
 module _ (k : Binary) (t bytes count matches taken : ℕ) (past rest : List ℕ) (place : Option ℕ) where
   abbrev Same : Going → Bool → Type 0
   Same g quit =
-      end_with bytes count matches (cause_of g quit) (cond (eqb (cause_number (cause_of g quit)) 1) (Some taken) (under_convert k (gone_through place bytes)))
-      ≡ end_with bytes count matches (cause_of g (quit_met k (past ++ rest)))
+      end_with bytes count matches (cause_number (cause_of g quit)) (cond (eqb (cause_number (cause_of g quit)) 1) (Some taken) (under_convert k (gone_through place bytes)))
+      ≡ end_with bytes count matches (cause_number (cause_of g (quit_met k (past ++ rest))))
       (binary_place k t (cause_of g (quit_met k (past ++ rest))) bytes (past ++ rest))
 
   module _ (place_is : place ≡ replaced_in k t 0 past) (gone : bytes ≤ length past) where
     same_other : (cause : Cause) → eqb (cause_number cause) 1 ≡ false
-        → end_with bytes count matches cause (under_convert k (gone_through place bytes)) ≡ end_with bytes count matches cause (binary_place k t cause bytes (past ++ rest))
+        → end_with bytes count matches (cause_number cause) (under_convert k (gone_through place bytes)) ≡ end_with bytes count matches (cause_number cause) (binary_place k t cause bytes (past ++ rest))
     same_other cause e =
-        ap (end_with bytes count matches cause) (ap (λ p. under_convert k (gone_through p bytes)) place_is ∙ place_other k t bytes cause past rest gone e)
+        ap (end_with bytes count matches (cause_number cause)) (ap (λ p. under_convert k (gone_through p bytes)) place_is ∙ place_other k t bytes cause past rest gone e)
 
     same_stopped : (g : Going) (quit : Bool) → (g ≡ On → ⊥) → Same g quit
     same_stopped On quit h = absurd (h refl)
@@ -107,7 +106,7 @@ module _ (k : Binary) (t bytes count matches taken : ℕ) (past rest : List ℕ)
   same_quit : taken ≡ length past → length (text_under k t past) ≡ length past → quit_met k rest ≡ true → text_under k t rest ≡ [] → Same On true
   same_quit taken_is uncut q e =
       let met : quit_met k (past ++ rest) ≡ true = quit_later k t past rest uncut q in
-      rw met (ap (end_with bytes count matches QuitByte) (ap Some taken_is ∙ place_quit k t bytes past rest uncut q e))
+      rw met (ap (end_with bytes count matches (cause_number QuitByte)) (ap Some taken_is ∙ place_quit k t bytes past rest uncut q e))
 
 -- # When the record is served
 

@@ -4,7 +4,6 @@
 
 ghost use Rattle.std.specs.Prelude.{◌≡◌};
 
-use definition::Refusal;
 use output::Output;
 use replay_calls::Called;
 use replay_words::Command;
@@ -24,13 +23,13 @@ pub fn say(
     let searcher = called.script.searcher;
     let window = &room[..called.script.lent.min(room.len())];
     match command {
-        Command::Open(_, _) => say_refusal(called.count, b"open", out),
-        Command::Offer(_) => say_offer(called.count, out),
+        Command::Open(_, _) => say_refusal(called.refusal, b"open", out),
+        Command::Offer(_) => say_offer(called, out),
         Command::Waits => say_waiting(searcher, window, out),
         Command::Line => replay_says::said_bytes(out, b"line ", searcher.line(window)),
-        Command::Answer(_, _) => say_answer(called.count, table, out),
+        Command::Answer(_, _) => say_answer(called, table, out),
         Command::Table(from, to) => say_table(table, from, to, out),
-        Command::End => say_refusal(called.count, b"end", out),
+        Command::End => say_refusal(called.refusal, b"end", out),
         Command::Record => say_record(searcher, out),
         Command::Window => replay_says::said_bytes(out, b"window ", window),
         Command::Poke(at, count) => poke(room, at, bytes, count, out),
@@ -38,32 +37,23 @@ pub fn say(
     }
 }
 
-// The number of a call's refusal, 0 where it was served.
-fn refusal_of(count: Result<usize, Refusal>) -> u64 {
-    match count {
-        Ok(_) => 0,
-        Err(refusal) => u64::from(refusal),
-    }
-}
-
-fn say_refusal(count: Result<usize, Refusal>, name: &[u8], out: &mut Output)
+fn say_refusal(refusal: u64, name: &[u8], out: &mut Output)
     ensures { out.new.room.ghost_name ≡ out.old.room.ghost_name }
 {
-    replay_says::said_numbers(out, name, &[refusal_of(count)]);
+    replay_says::said_numbers(out, name, &[refusal]);
 }
 
-fn say_offer(count: Result<usize, Refusal>, out: &mut Output)
+fn say_offer(called: Called, out: &mut Output)
     ensures { out.new.room.ghost_name ≡ out.old.room.ghost_name }
 {
-    let taken = count.unwrap_or(0) as u64;
-    replay_says::said_numbers(out, b"offer", &[refusal_of(count), taken]);
+    let taken = called.count as u64;
+    replay_says::said_numbers(out, b"offer", &[called.refusal, taken]);
 }
 
-fn say_answer(count: Result<usize, Refusal>, table: &[u64], out: &mut Output)
+fn say_answer(called: Called, table: &[u64], out: &mut Output)
     ensures { out.new.room.ghost_name ≡ out.old.room.ghost_name }
 {
-    let rows = count.unwrap_or(0);
-    replay_says::said_rows(out, b"answer", refusal_of(count), table, rows);
+    replay_says::said_rows(out, b"answer", called.refusal, table, called.count);
 }
 
 fn say_table(table: &[u64], first: usize, last: usize, out: &mut Output)

@@ -2,7 +2,7 @@
 // commands are listed in `replaying`.
 #![tactic(auto)]
 
-use definition::{Refusal, Settings};
+use definition::Settings;
 use replay_words::{Command, ROOM};
 use searcher::Searcher;
 use session::Refused;
@@ -15,12 +15,15 @@ pub struct Script {
     pub lent: usize,
 }
 
-// What a call gave; a command that makes none leaves the search as it was.
+// What a call gave; a command that makes none leaves the search as it was. Refusal and count stand side by side, since any two are
+// said.
 #[derive(Clone, Copy)]
 pub struct Called {
     pub script: Script,
+    // 0 of a call that was served
+    pub refusal: u64,
     // bytes taken or rows written, 0 of a call that does neither
-    pub count: Result<usize, Refusal>,
+    pub count: usize,
 }
 
 pub fn start() -> Script {
@@ -51,7 +54,8 @@ pub fn call(
 fn served(searcher: Searcher, lent: usize, count: usize) -> Called {
     Called {
         script: Script { searcher, lent },
-        count: Ok(count),
+        refusal: 0,
+        count,
     }
 }
 
@@ -61,7 +65,8 @@ fn refused(refused: Refused<Searcher>, lent: usize) -> Called {
             searcher: refused.next,
             lent,
         },
-        count: Err(refused.refusal),
+        refusal: u64::from(refused.refusal),
+        count: 0,
     }
 }
 

@@ -9,7 +9,7 @@ use Rattle.std.proofs.Common.{true, false, eqb}
 use Rattle.std.proofs.lemmas.Bool.{eqb-false, eqb-true}
 use Rattle.definition.specs.declared.Kind.{Kind}
 use Rattle.definition.specs.declared.Row.{Row}
-use Rattle.definition.specs.Rows.{flat, placed}
+use Rattle.definition.specs.Rows.{flat, kind_number, placed}
 use Rattle.definition.specs.Text.{first_length, lines, put_at}
 use Rattle.definition.proofs.Lists.{length_put_at, put_at_append, put_at_none}
 use Rattle.definition.proofs.Terminator.{lines_head}
@@ -17,7 +17,7 @@ use Rattle.rows.specs.Table.{BeforeFits, before_numbers}
 
 before_head : (t offset number : ℕ) (bytes : List ℕ) → 0 < length bytes
     → before_numbers t offset number bytes
-    ≡ flat (record { kind = Kind.Before; offset = offset; length = first_length t bytes; number = number })
+    ≡ flat (record { kind = kind_number Kind.Before; offset = offset; length = first_length t bytes; number = number })
     ++ before_numbers t (offset + first_length t bytes) (number + 1) (drop (first_length t bytes) bytes)
 unfolding before_numbers placed flatten
 before_head t offset number bytes h =
@@ -25,7 +25,7 @@ before_head t offset number bytes h =
 
 -- What the loop keeps: the rows still to come have room, and put into the table as it stands they give the table wanted.
 pub record Left (t : ℕ) (wanted table rest : List ℕ) (place : ℕ) (row : Row) : Type 0 where
-  pub kind : row.kind ≡ Kind.Before
+  pub kind : row.kind ≡ kind_number Kind.Before
   pub fits : BeforeFits (length table) place (length rest) (length (lines t rest)) row.offset row.number
   pub to_come : put_at place (before_numbers t row.offset row.number rest) table ≡ wanted
 

@@ -14,7 +14,7 @@ pub fn put_row(table: &mut [u64], at: usize, row: Row)
     requires { at + row_size ≤ length table.old }
     ensures { table.new ≡ put_at at (flat row) table.old }
 {
-    table[at] = u64::from(row.kind);
+    table[at] = row.kind;
     table[at + 1] = row.offset;
     table[at + 2] = row.length;
     table[at + 3] = row.number;
@@ -35,7 +35,7 @@ pub fn put_before(
     let mut rest = part;
     let mut place = at;
     let mut row = Row {
-        kind: Kind::Before,
+        kind: u64::from(Kind::Before),
         offset: offset,
         length: 0,
         number: number,

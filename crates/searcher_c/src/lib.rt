@@ -5,7 +5,7 @@
 ghost use Rattle.std.specs.Prelude.{◌*◌, ◌≤◌, length};
 ghost use Rattle.definition.specs.Rows.{row_size};
 
-use definition::{Refusal, Settings};
+use definition::Settings;
 use machine::{Fed, Next};
 use searcher::Searcher;
 
@@ -19,7 +19,7 @@ pub struct Sum {
 #[derive(Clone, Copy)]
 pub struct Searched {
     pub searcher: Searcher,
-    pub refusal: Option<Refusal>,
+    pub refusal: Option<u64>,
     pub sum: Sum,
 }
 
@@ -48,7 +48,7 @@ pub extern "C" fn searcher_search(
         Ok(searcher) => search_text(searcher, text, piece, literal, window, table),
         Err(refused) => Searched {
             searcher: refused.next,
-            refusal: Some(refused.refusal),
+            refusal: Some(u64::from(refused.refusal)),
             sum: Sum { rows: 0, mixed: 0 },
         },
     };
@@ -56,7 +56,7 @@ pub extern "C" fn searcher_search(
 }
 
 fn numbers(searched: Searched) -> [u64; 7] {
-    let refusal = searched.refusal.map_or(0, u64::from);
+    let refusal = searched.refusal.unwrap_or(0);
     let [_, bytes, lines, matches, cause, _, _] = ending::record_numbers(
         searched.searcher.end_record(),
     );
@@ -87,7 +87,7 @@ fn search_text(
                 sum = sum_up(sum, table, answered.rows);
             }
             Err(refused) => {
-                let fed = feed(s, refused.refusal, window, first(rest, piece));
+                let fed = feed(s, u64::from(refused.refusal), window, first(rest, piece));
                 s = fed.session;
                 rest = &rest[fed.taken..];
                 match fed.next {
@@ -127,9 +127,9 @@ fn mix(mixed: u64, x: u64) -> u64 {
     mixed.wrapping_mul(3) ^ x
 }
 
-// An answer was refused. Where nothing is left of the text its end is told.
+// An answer was refused, by the number given. Where nothing is left of the text its end is told.
 #[tactic(auto, using(machine::proofs::Feeds::fed_taken, machine::proofs::Feeds::end_taken))]
-fn feed(s: Searcher, refusal: Refusal, window: &mut [u8], piece: &[u8]) -> Fed<Searcher>
+fn feed(s: Searcher, refusal: u64, window: &mut [u8], piece: &[u8]) -> Fed<Searcher>
     ensures { result.taken ≤ length piece.now }
 {
     let fed = driving::feed(s, refusal, window, piece);

@@ -6,7 +6,6 @@ use Rattle.definition.specs.declared.Row.{Row}
 use Rattle.definition.specs.declared.Binary.{Binary}
 use Rattle.definition.specs.declared.Binary.TheVariants.{Ignore, Quit, Convert}
 use Rattle.definition.specs.declared.Cause.{Cause}
-use Rattle.definition.specs.declared.Cause.TheVariants.{InputEnd}
 use Rattle.definition.specs.declared.End.{End}
 use Rattle.definition.specs.declared.Going.{Going}
 use Rattle.definition.specs.declared.Going.TheVariants.{On, LimitMet, NonmatchMet}
@@ -14,8 +13,8 @@ use Rattle.definition.specs.declared.Refusal.{Refusal}
 use Rattle.definition.specs.declared.Refusal.TheVariants.{BadSettings, BadWindow, WindowFull, SizeTaken, Unsound, Unfinished}
 use Rattle.definition.specs.declared.Settings.{Settings}
 use Rattle.definition.specs.Bounds.{allowed, max_input, max_window}
-use Rattle.definition.specs.Definition.{cause_of}
-use Rattle.definition.specs.Numbers.{cause_number, end_numbers, refusal_number}
+use Rattle.definition.specs.Definition.{cause_number, cause_of, end_numbers}
+use Rattle.definition.specs.Numbers.{refusal_number}
 use Rattle.definition.specs.State.{fate_of}
 use Rattle.definition.specs.Text.{first_place, part, text}
 use Rattle.driver_core.specs.Answer.{AnswerDecision, AnswerRefused, Give, answering_since, below_one_since, gets_row, put_rows, rows_since, walk_next}
@@ -339,7 +338,7 @@ recorded_place s cause =
 unfoldable pub record_of : Session → End
 record_of s =
     let cause = cause_of s.walk.going (is_quit s.places.input) in
-    walk_end s.walk cause (recorded_place s cause)
+    walk_end s.walk (cause_number cause) (recorded_place s cause)
 
 abbrev pub record_given : Option Refusal → Session → Result End Refusal
 record_given None s = Ok (record_of s)
@@ -350,7 +349,7 @@ record_result s = record_given (recording s) s
 
 -- "a refused end record is all zeros"
 abbrev pub no_record : End
-no_record = record { bytes = 0; lines = 0; matches = 0; cause = InputEnd; offset = None }
+no_record = record { bytes = 0; lines = 0; matches = 0; cause = 0; offset = None }
 
 pub record Recorded : Type 0 where
   pub refusal : ℕ

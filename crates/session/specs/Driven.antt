@@ -6,7 +6,7 @@ use Rattle.definition.specs.declared.Going.TheVariants.{On}
 use Rattle.definition.specs.declared.Settings.{Settings}
 use Rattle.definition.specs.Bounds.{plain}
 use Rattle.definition.specs.Examples.{Example, answers_at, context, settings, r, e, N, all, P}
-use Rattle.definition.specs.Numbers.{end_numbers}
+use Rattle.definition.specs.Definition.{end_numbers}
 use Rattle.definition.specs.Rows.{row_size, rows_in}
 use Rattle.driver_core.specs.Walk.{is_on}
 use Rattle.session.specs.declared.Input.TheVariants.{Open}

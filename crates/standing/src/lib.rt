@@ -3,13 +3,12 @@
 #![tactic(auto)]
 
 ghost use Rattle.std.specs.Prelude.{◌≡◌, List, ℕ, ◌+◌, ◌≤◌, ◌<◌, length};
-ghost use Rattle.definition.specs.Numbers.{refusal_number};
 ghost use Rattle.line_buffer.specs.Buffer.{rolled};
 ghost use Rattle.search_machine.specs.Search.{starts};
 ghost use Rattle.printing.specs.Texts.{end_text, line_most, refused_text};
 ghost use Rattle.search_machine.specs.Standing.{OverWith, begins, begun_with, going_with, opened_with, over_with, seen, wanting_with, with_more, written_out};
 
-use definition::{End, Refusal};
+use definition::End;
 use output::{Output, Pending};
 use rare_bytes::Pair;
 use search_machine::{Phase, Search, Stage};
@@ -115,10 +114,10 @@ pub fn written(s: Search) -> Search
     }
 }
 
-// All is told but for what is pending, and last of it a refusal.
-pub fn refused(s: Search, out: &mut [u8], refusal: Refusal) -> Search
+// All is told but for what is pending, and last of it a refusal, by its number.
+pub fn refused(s: Search, out: &mut [u8], refusal: u64) -> Search
     requires { s.pending.length + line_most ≤ length out.old }
-    ensures { OverWith s (refused_text (refusal_number refusal)) out.old result out.new }
+    ensures { OverWith s (refused_text refusal) out.old result out.new }
 {
     let mut told = Output {
         room: out,

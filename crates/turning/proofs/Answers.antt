@@ -80,9 +80,9 @@ abbrev Wanting : Session → List ℕ → List ℕ → Fed Session → List ℕ 
 Wanting s w piece f window = (f ≡ stays s Wants) × (window ≡ w) × (length piece ≡ 0)
 
 -- more is wanted only where nothing is left, and then nothing changes
-pub fed_wanting : (s : Session) (k : Refusal) (w piece : List ℕ) → (fed s k w piece).next ≡ Wants → Wanting s w piece (fed s k w piece) (fed_window s k w piece)
+pub fed_wanting : (s : Session) (k : ℕ) (w piece : List ℕ) → (fed s k w piece).next ≡ Wants → Wanting s w piece (fed s k w piece) (fed_window s k w piece)
 unfolding fed fed_window
-fed_wanting s k w piece = go (eqb (refusal_number k) 6)
+fed_wanting s k w piece = go (eqb k 6)
   where
     by : (r : Result (Offered Session) (Refused Session)) → (fed_by s r).next ≡ Wants → ⊥
     by (Ok o) e = cc
@@ -121,7 +121,7 @@ module _ (l : List ℕ) (s : Session) (w rest table : List ℕ) (size : length t
       rw (d, given.rows, given.next, answered_rows s w table hit given.decides)
 
   in_text_feeds : (q : Refused Searcher) → Err q ≡ door_answered (answer_result s w table hit)
-      → turn_of (state_at Text l s w rest) ≡ in_text l (feeds (search_for l) (state_at Text l s w rest).standing q.refusal)
+      → turn_of (state_at Text l s w rest) ≡ in_text l (feeds (search_for l) (state_at Text l s w rest).standing (refusal_number q.refusal))
   unfolding turn_of turns
   in_text_feeds q e =
       let d : answering s w table_size hit ≡ AnswerRefused q.refusal = ap (λ n. answering s w n hit) (sym size) ∙ answer_refuses s w table hit q e in
@@ -154,12 +154,12 @@ module _ {stage : Stage} {l : List ℕ} {s : Session} {w table : List ℕ} {r : 
     turn_gives {o} e = rw (a.in_text, a.writes) (in_text_gives l s w rest table a.size o (sym e ∙ a.answers))
 
     -- where no line waits
-    module _ {q : Refused Searcher} (refused : r ≡ Err q) where
-      turn_feeds : turn_of (state_at stage l s w rest) ≡ in_text l (feeds (search_for l) (state_at Text l s w rest).standing q.refusal)
-      turn_feeds = rw a.in_text (in_text_feeds l s w rest table a.size q (sym refused ∙ a.answers))
+    module _ {q : Refused Searcher} (refused : r ≡ Err q) {number : ℕ} (number_is : number ≡ refusal_number q.refusal) where
+      turn_feeds : turn_of (state_at stage l s w rest) ≡ in_text l (feeds (search_for l) (state_at Text l s w rest).standing number)
+      turn_feeds = rw (a.in_text, number_is) (in_text_feeds l s w rest table a.size q (sym refused ∙ a.answers))
 
-      module _ {f : Fed Searcher} (e : f ≡ door_fed (fed s q.refusal w rest)) where
-        pub turn_goes : {window : List ℕ} → window ≡ fed_window s q.refusal w rest → f.next ≡ Goes
+      module _ {f : Fed Searcher} (e : f ≡ door_fed (fed s number w rest)) where
+        pub turn_goes : {window : List ℕ} → window ≡ fed_window s number w rest → f.next ≡ Goes
             → turn_of (state_at stage l s w rest) ≡ goes [] (state_at stage l f.session.session window (drop f.taken rest))
         unfolding feeds
         turn_goes d n = turn_feeds ∙ rw (a.in_text, d, e, sym (ap (λ x. x.next) e) ∙ n)
@@ -168,10 +168,10 @@ module _ {stage : Stage} {l : List ℕ} {s : Session} {w table : List ℕ} {r : 
         unfolding feeds
         turn_wants n =
             let next = sym (ap (λ x. x.next) e) ∙ n in
-            let same = fed_wanting s q.refusal w rest next in
+            let same = fed_wanting s number w rest next in
             turn_feeds ∙ rw (next, a.in_text, same.0, same.1)
 
-        pub turn_refuses : {k : Refusal} → f.next ≡ Refuses k → turn_of (state_at stage l s w rest) ≡ ends (refused_text (refusal_number k))
+        pub turn_refuses : {k : ℕ} → f.next ≡ Refuses k → turn_of (state_at stage l s w rest) ≡ ends (refused_text k)
         unfolding feeds
         turn_refuses n = turn_feeds ∙ rw (sym (ap (λ x. x.next) e) ∙ n)
 

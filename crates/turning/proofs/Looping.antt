@@ -2,7 +2,6 @@
 use Rattle.std.specs.Prelude.{Result, Ok, Err}
 use Rattle.std.proofs.Common.{◌≡◌, ℕ, ◌+◌, ◌-◌, ◌<◌, ◌≤◌, false, ◌⊎◌, List, [], length, take, sym, refl, ap, ◌∙◌, inl, inr, ⊎_elim, append-nil, arith}
 use Rattle.definition.specs.declared.End.{End}
-use Rattle.definition.specs.declared.Refusal.{Refusal}
 use Rattle.definition.specs.Numbers.{refusal_number}
 use Rattle.definition.specs.Text.{part}
 use Rattle.driving.specs.Door.{door_fed}
@@ -89,7 +88,7 @@ module _ {s : Search} {start : State} {window₀ table₀ literal input₀ out�
         }
 
     -- where no line waits
-    module _ {k : Refused Searcher} (h : r ≡ Err k) {f : Fed Searcher} {moved : List ℕ} (e : f ≡ door_fed (fed searcher.session k.refusal window (part at s.to input))) (m : moved ≡ fed_window searcher.session k.refusal window (part at s.to input)) where
+    module _ {k : Refused Searcher} (h : r ≡ Err k) {number : ℕ} (number_is : number ≡ refusal_number k.refusal) {f : Fed Searcher} {moved : List ℕ} (e : f ≡ door_fed (fed searcher.session number window (part at s.to input))) (m : moved ≡ fed_window searcher.session number window (part at s.to input)) where
       -- no more is taken than is left
       pub loop_taken : at + f.taken ≤ s.to
       loop_taken =
@@ -98,7 +97,7 @@ module _ {s : Search} {start : State} {window₀ table₀ literal input₀ out�
             arith,
             loop.at_to,
             placed.to_in,
-            fed_taken searcher.session k.refusal window piece,
+            fed_taken searcher.session number window piece,
             part_length at s.to input loop.at_to (omega (arith, placed.to_in, ap length loop.input_is)),
             ap (λ x. x.taken) e,
           )
@@ -107,7 +106,7 @@ module _ {s : Search} {start : State} {window₀ table₀ literal input₀ out�
           → Loop s start window₀ table₀ literal input₀ out₀ moved after input out f.session (at + f.taken) pending (made + 1)
       loop_goes n same-window same-table =
           let printed = take pending.length out in
-          let turn = turn_goes a (part at s.to input) h e m n in
+          let turn = turn_goes a (part at s.to input) h number_is e m n in
           record {
             count = loop.count + 1;
             leads = rw (sym (append-nil printed), sym (part_drop at s.to f.taken input)) (leads_goes search loop.count start printed _ [] _ loop.leads turn);
@@ -135,20 +134,20 @@ module _ {s : Search} {start : State} {window₀ table₀ literal input₀ out�
             collects = record { within = tells_within loop.within t; kept = t.lost_is ∙ loop.kept };
           }
 
-      pub loop_refuses : {n : Refusal} → f.next ≡ Refuses n → {q : Pending} {told : List ℕ} → Tells pending out (refused_text (refusal_number n)) q told
+      pub loop_refuses : {n : ℕ} → f.next ≡ Refuses n → {q : Pending} {told : List ℕ} → Tells pending out (refused_text n) q told
           → Turned start (over_with s q) moved literal input told
-      loop_refuses n t = loop_over _ (turn_refuses a (part at s.to input) h e n) t
+      loop_refuses n t = loop_over _ (turn_refuses a (part at s.to input) h number_is e n) t
 
       pub loop_ends : {end : End} → f.next ≡ Ends end → {q : Pending} {told : List ℕ} → Tells pending out (end_text end) q told
           → Turned start (over_with s q) moved literal input told
-      loop_ends n t = loop_over _ (turn_ends a (part at s.to input) h e n) t
+      loop_ends n t = loop_over _ (turn_ends a (part at s.to input) h number_is e n) t
 
       pub loop_wants : 0 < length input₀ → f.next ≡ Wants → {rest : List ℕ} → rest ≡ rolled (at + f.taken) s.to input
           → length rest ≡ length input
           → Turned start (wanting_with (going_with s f.session (at + f.taken) pending)) moved literal rest out
       loop_wants some n {rest} d same_rest =
           let piece = part at s.to input in
-          let wanting = fed_wanting searcher.session k.refusal window piece (sym (ap (λ x. x.next) e) ∙ n) in
+          let wanting = fed_wanting searcher.session number window piece (sym (ap (λ x. x.next) e) ∙ n) in
           let none : f.taken ≡ 0 = ap (λ x. x.taken) e ∙ ap (λ x. x.taken) wanting.0 in
           let here : at + f.taken ≡ at = omega arith in
           let size_is = ap length loop.input_is in
@@ -157,7 +156,7 @@ module _ {s : Search} {start : State} {window₀ table₀ literal input₀ out�
           let same = same_state s.stage (take s.size literal) (ap (λ x. x.session.session) e ∙ ap (λ x. x.session) wanting.0) (m ∙ wanting.1) rest-is in
           record {
             count = loop.count;
-            does = rw same (loop.leads, turn_wants a piece h e n);
+            does = rw same (loop.leads, turn_wants a piece h number_is e n);
             room = omega (arith, part_length at s.to input loop.at_to (omega arith), wanting.2);
             placed = record { literal_in = placed.literal_in; from_to = omega arith; to_in = omega arith };
             collects = record { within = loop.within; kept = loop.kept };

@@ -44,7 +44,8 @@ pub fn turns(
                 printing::rows(&mut told, table, answered.rows);
             }
             Err(refused) => {
-                let fed = driving::feed(searcher, refused.refusal, window, &input[at..to]);
+                let refusal = u64::from(refused.refusal);
+                let fed = driving::feed(searcher, refusal, window, &input[at..to]);
                 searcher = fed.session;
                 at += fed.taken;
                 match fed.next {

@@ -35,7 +35,7 @@ fn search<O: Write>(to: &mut O, searcher: Searcher, text: &[u8]) {
                 print_rows(to, &table, answered.rows);
             }
             Err(refused) => {
-                let fed = driving::feed(s, refused.refusal, &mut window, rest);
+                let fed = driving::feed(s, u64::from(refused.refusal), &mut window, rest);
                 s = fed.session;
                 rest = &rest[fed.taken..];
                 if !matches!(fed.next, Next::Goes) {

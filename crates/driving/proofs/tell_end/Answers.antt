@@ -12,4 +12,4 @@ returns-in-Ok c = end_served c.args.s.session (tell_result c.args.s.session) c.i
 pub returns-in-Err : goal.returns-in-Err
 unfolding fed_end
 returns-in-Err c =
-    c.unchanged.ensures ∙ end_refused c.args.s.session (tell_result c.args.s.session) c.in-Err.not_told (sym c.in-Err.is ∙ c.tell_end.ensures)
+    c.unchanged.ensures ∙ end_refused c.args.s.session (tell_result c.args.s.session) c.in-Err.not_told (sym c.in-Err.is ∙ c.tell_end.ensures) c.from.ensures

@@ -13,4 +13,4 @@ pub returns-in-Unfinished : goal.returns-in-Unfinished
 returns-in-Unfinished c = rw c.wanting.ensures.value (once_wants c.args.window.now c.requires.1 (inr c.requires.0) (sym c.in-Unfinished.is ∙ c.look.ensures.value) c.in-Unfinished.ensures.stands c.wanting.ensures.input_after c.wanting.auto.input)
 
 pub returns-in-TooLong : goal.returns-in-TooLong
-returns-in-TooLong c = once_long c.args.window.now c.requires.1 (inr c.requires.0) (sym c.in-TooLong.is ∙ c.look.ensures.value) c.refused.ensures
+returns-in-TooLong c = once_long c.args.window.now c.requires.1 (inr c.requires.0) (sym c.in-TooLong.is ∙ c.look.ensures.value) (rw c.from.ensures at c.refused.ensures)

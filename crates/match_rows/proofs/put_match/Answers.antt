@@ -24,6 +24,7 @@ returns c =
     rw (
       c.put_row.ensures,
       c.line_row.ensures,
+      c.from.ensures,
       c.put_before.ensures,
       c.put_break.ensures,
       length_part c.args.before.from c.args.since.now,

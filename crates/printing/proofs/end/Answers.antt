@@ -3,4 +3,4 @@ use Rattle.output.proofs.Laws.{told_more}
 use Rattle.printing.proofs.end.Goals as goal
 
 pub returns-clause-told : goal.returns-clause-told
-returns-clause-told c = rw c.from.ensures at (told_more c.text.ensures c.four.ensures.told)
+returns-clause-told c = told_more c.text.ensures c.four.ensures.told

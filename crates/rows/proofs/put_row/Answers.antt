@@ -15,6 +15,6 @@ returns c =
     let one : c.args.at + 1 ≡ suc c.args.at = omega arith in
     let two : c.args.at + 2 ≡ suc (suc c.args.at) = omega arith in
     let three : c.args.at + 3 ≡ suc (suc (suc c.args.at)) = omega arith in
-    rw (c.from.ensures, one, two, three)
+    rw (one, two, three)
     (sets-eq (flat c.args.row) c.args.table.now c.args.at (omega (arith, c.requires))
     ∙ append_assoc (take c.args.at c.args.table.now) (flat c.args.row) (drop (c.args.at + 4) c.args.table.now))

@@ -18,29 +18,29 @@ rows-requires c =
 pub overflow_add-at : goal.overflow_add-at
 overflow_add-at c =
     let asked = asked (goal.at.overflow_add-at c).After-answer in
-    omega (arith, c.well_formed, c.requires.1.placed, loop_taken c.loop.invariant.1 c.requires.1.placed asked c.in-Err.is c.feed-fed.ensures.value c.feed-fed.ensures.window_after)
+    omega (arith, c.well_formed, c.requires.1.placed, loop_taken c.loop.invariant.1 c.requires.1.placed asked c.in-Err.is c.from-refusal.ensures c.feed-fed.ensures.value c.feed-fed.ensures.window_after)
 
 pub wanting-requires : goal.wanting-requires
 wanting-requires c =
     let asked = asked (goal.at.wanting-requires c).After-answer in
-    rw c.going-left.ensures (loop_taken c.loop.invariant.1 c.requires.1.placed asked c.in-Err.is c.feed-fed.ensures.value c.feed-fed.ensures.window_after, omega (arith, c.requires.1.placed, ap length c.loop.invariant.1.input_is))
+    rw c.going-left.ensures (loop_taken c.loop.invariant.1 c.requires.1.placed asked c.in-Err.is c.from-refusal.ensures c.feed-fed.ensures.value c.feed-fed.ensures.window_after, omega (arith, c.requires.1.placed, ap length c.loop.invariant.1.input_is))
 
 pub returns-in-Wants : goal.returns-in-Wants
 returns-in-Wants c =
     let asked = asked (goal.at.returns-in-Wants c).After-answer in
-    let done = loop_wants c.loop.invariant.1 c.requires.1.placed asked c.in-Err.is c.feed-fed.ensures.value c.feed-fed.ensures.window_after (omega (arith, c.requires.1.lent.input_room)) c.in-Wants.is (rw c.going-left.ensures at c.wanting.ensures.input_after) c.wanting.auto.input in
+    let done = loop_wants c.loop.invariant.1 c.requires.1.placed asked c.in-Err.is c.from-refusal.ensures c.feed-fed.ensures.value c.feed-fed.ensures.window_after (omega (arith, c.requires.1.lent.input_room)) c.in-Wants.is (rw c.going-left.ensures at c.wanting.ensures.input_after) c.wanting.auto.input in
     rw (c.wanting.ensures.value, c.going-left.ensures) (search rules)
 
 pub returns-in-Refuses : goal.returns-in-Refuses
 returns-in-Refuses c =
     let asked = asked (goal.at.returns-in-Refuses c).After-answer in
-    let done = loop_refuses c.loop.invariant.1 c.requires.1.placed asked c.in-Err.is c.feed-fed.ensures.value c.feed-fed.ensures.window_after c.in-Refuses.is c.refusal.ensures.told.1 in
+    let done = loop_refuses c.loop.invariant.1 c.requires.1.placed asked c.in-Err.is c.from-refusal.ensures c.feed-fed.ensures.value c.feed-fed.ensures.window_after c.in-Refuses.is c.refusal.ensures.told.1 in
     rw c.over.ensures (search rules)
 
 pub returns-in-Ends : goal.returns-in-Ends
 returns-in-Ends c =
     let asked = asked (goal.at.returns-in-Ends c).After-answer in
-    let done = loop_ends c.loop.invariant.1 c.requires.1.placed asked c.in-Err.is c.feed-fed.ensures.value c.feed-fed.ensures.window_after c.in-Ends.is c.end.ensures.told.1 in
+    let done = loop_ends c.loop.invariant.1 c.requires.1.placed asked c.in-Err.is c.from-refusal.ensures c.feed-fed.ensures.value c.feed-fed.ensures.window_after c.in-Ends.is c.end.ensures.told.1 in
     rw c.over-in-Ends.ensures (search rules)
 
 pub loop-preserved : goal.loop-preserved
@@ -52,7 +52,7 @@ loop-preserved c =
           (w.rows.ensures.same_reference ∙ c.loop.invariant.0, loop_gives c.loop.invariant.1 c.requires.1.placed asked w.in-Ok.is c.answer.auto.table w.rows.ensures.told.1)
       | in-Err+in-Goes w ↦
           rw (w.window-is, w.told-is, w.searcher-is, w.at-is)
-          (c.loop.invariant.0, loop_goes c.loop.invariant.1 c.requires.1.placed asked w.in-Err.is w.feed-fed.ensures.value w.feed-fed.ensures.window_after w.in-Goes.is w.feed-fed.auto.window c.answer.auto.table)
+          (c.loop.invariant.0, loop_goes c.loop.invariant.1 c.requires.1.placed asked w.in-Err.is w.from-refusal.ensures w.feed-fed.ensures.value w.feed-fed.ensures.window_after w.in-Goes.is w.feed-fed.auto.window c.answer.auto.table)
     ]
 
 pub returns : goal.returns
