@@ -19,6 +19,7 @@ pub struct Sum {
 #[derive(Clone, Copy)]
 pub struct Searched {
     pub searcher: Searcher,
+    // its number, as `Next` tells it
     pub refusal: Option<u64>,
     pub sum: Sum,
 }
