@@ -92,8 +92,8 @@ impl From<Kind> for u64 {
     }
 }
 
-// A row: its kind by number, as `Kind` has them, and a number so that a row of any other can be put; the line's first byte,
-// counting from 0, its length with terminator, and its number from 1.
+// A row: the number of its kind, the line's first byte, counting from 0, its length with terminator, and its number from 1. `Kind`
+// has 01's kinds; a row of any other number can be put too.
 #[derive(Clone, Copy)]
 pub struct Row {
     pub kind: u64,
@@ -134,7 +134,7 @@ pub struct End {
     pub bytes: u64,
     pub lines: u64,
     pub matches: u64,
-    // by number, as `Cause` has them, and a number so that any other can be told
+    // its number: `Cause` has 01's, and any other can be told too
     pub cause: u64,
     // where a byte was met that marks binary data, counting from 0
     pub offset: Option<u64>,
