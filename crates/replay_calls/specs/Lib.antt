@@ -1,0 +1,2 @@
+-- What a call gives.
+pub mod Gave
